@@ -1,0 +1,5 @@
+mod Laws
+mod Told
+mod Walked
+pub mod Accepted
+mod Parts

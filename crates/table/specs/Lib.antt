@@ -1,0 +1,9 @@
+pub mod Fields
+pub mod Ranges
+pub mod Rules
+pub mod Reading
+pub mod Replies
+pub mod Records
+pub mod Sums
+pub mod WellFormed
+pub mod Sound
