@@ -49,7 +49,7 @@ pub record Seen (s : List ℕ) (w : Walk) : Type 0 where
   pub unused : (i : ℕ) → w .user < i → sumTo (w .uses) (sectionsBy s (w .tasks) (20 * w .tasks) i) ≡ 0
   pub sections : (i : ℕ) → i < w .tasks → sumTo (w .uses) (sectionsBy s (w .tasks) (20 * w .tasks) i) ≤ taskOf s i .run
 
-seen-start : (s : List ℕ) → Seen s startWalk
+pub seen-start : (s : List ℕ) → Seen s startWalk
 unfolding sumTo
 seen-start s = record {
   place = refl;
@@ -84,7 +84,7 @@ sum-more : (n : ℕ) (f : ℕ → ℕ) → sumTo (n + 1) f ≡ sumTo n f + f n
 unfolding sumTo
 sum-more n f = rw add-one
 
-seen-task : (s : List ℕ) (w : Walk) → Seen s w → getD s (w .at) 0 ≡ 1 → w .at + 20 ≤ length s → taskRule w (taskAt s (w .at)) ≡ 0
+pub seen-task : (s : List ℕ) (w : Walk) → Seen s w → getD s (w .at) 0 ≡ 1 → w .at + 20 ≤ length s → taskRule w (taskAt s (w .at)) ≡ 0
     → Seen s (withTask w (taskAt s (w .at)))
 seen-task s w g k room e =
     let t = taskAt s (w .at) in
@@ -141,7 +141,7 @@ section-more s w g lt m =
 
 module _ (s : List ℕ) (w : Walk) (g : Seen s w) (lt : userAt s w < w .tasks) (on : w .user ≤ userAt s w) where
   -- with the use, the sections of its task
-  sum-own : sumTo (w .uses + 1) (sectionsBy s (w .tasks) (20 * w .tasks) (userAt s w)) ≡ sumAfter w (useAt s (w .at)) (userAt s w)
+  pub sum-own : sumTo (w .uses + 1) (sectionsBy s (w .tasks) (20 * w .tasks) (userAt s w)) ≡ sumAfter w (useAt s (w .at)) (userAt s w)
   unfolding sumAfter
   sum-own = section-more s w g lt (userAt s w) ∙ go (ℕ-discrete (userAt s w) (w .user))
     where
@@ -163,7 +163,7 @@ module _ (s : List ℕ) (w : Walk) (g : Seen s w) (lt : userAt s w < w .tasks) (
       let f = section-more s w g lt m in
       omega arith
 
-seen-use : (s : List ℕ) (w : Walk) → Seen s w → getD s (w .at) 0 ≡ 2 → w .at + 8 ≤ length s
+pub seen-use : (s : List ℕ) (w : Walk) → Seen s w → getD s (w .at) 0 ≡ 2 → w .at + 8 ≤ length s
     → useRule w (useAt s (w .at)) (userAt s w) (wordAt s (20 * userAt s w + 4)) ≡ 0 → Seen s (withUse w (useAt s (w .at)) (userAt s w))
 seen-use s w g k room e =
     let u = useAt s (w .at) in

@@ -2,4 +2,6 @@ mod Laws
 mod Told
 mod Walked
 pub mod Accepted
+pub mod Complete
+pub mod Laid
 mod Parts

@@ -20,7 +20,7 @@ use Rattle.table.specs.Reading.{startWalk, refusal, ruled, taskStep, use
 
 -- ---- which way a test went
 
-never : {G : Type 0} → _≡_ {A = ℕ} 0 1 → G
+pub never : {G : Type 0} → _≡_ {A = ℕ} 0 1 → G
 never e = absurd (omega arith)
 
 -- a step that goes on

@@ -1,0 +1,4 @@
+mod Fill
+mod Puts
+mod Loads
+mod Writes

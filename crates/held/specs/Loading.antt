@@ -1,0 +1,45 @@
+-- What a held table has of the bytes: a record for each count, and zeros after them; all zeros where the bytes are refused.
+use Prim.Native.Nat.{ℕ, zero, suc, _+_, _*_, _-_}
+use mathlib.Core.List.{List, [], _∷_, _++_}
+use lib.ListN.{replicate}
+use Rattle.table.specs.declared.Task.{Task}
+use Rattle.table.specs.declared.Use.{Use}
+use Rattle.table.specs.declared.Reading.{Reading}
+use Rattle.table.specs.declared.Reading.the-variants.{Accepted, Refused}
+use Rattle.table.specs.Reading.{readTable}
+use Rattle.table.specs.WellFormed.{taskOf, useOf}
+use Rattle.held.specs.declared.Table.{Table}
+use Rattle.held.specs.declared.Loaded.{Loaded}
+
+-- the entries that don't count
+abbrev pub noTask : Task
+noTask = record { priority = 0; setting = 0; sleeps = 0; run = 0; sleep = 0; deadline = 0; period = 0 }
+
+abbrev pub noUse : Use
+noUse = record { priority = 0; resource = 0; times = 0; length = 0 }
+
+-- f i, f (i + 1) and so on, k of them
+unfoldable pub every : {A : Type 0} → (ℕ → A) → ℕ → ℕ → List A
+every f zero i = []
+every f (suc k) i = f i ∷ every f k (i + 1)
+
+-- the first n tasks of the bytes, and zeros up to 32
+abbrev pub tasksOf : List ℕ → ℕ → List Task
+tasksOf s n = every (taskOf s) n 0 ++ replicate (32 - n) noTask
+
+-- the first n uses of the bytes, which start at a place, and zeros up to 512
+abbrev pub usesOf : List ℕ → ℕ → ℕ → List Use
+usesOf s start n = every (useOf s start) n 0 ++ replicate (512 - n) noUse
+
+-- a table with these counts
+abbrev pub filledBy : List ℕ → ℕ → ℕ → ℕ → Table
+filledBy s tasks start uses = record { tasks = tasksOf s tasks; «task_count» = tasks; uses = usesOf s start uses; «use_count» = uses }
+
+-- the table that bytes hold, by what they are read as
+unfoldable pub heldBy : Reading → List ℕ → Table
+heldBy (Accepted h) s = filledBy s (h .tasks) (h .«uses_at») (h .uses)
+heldBy (Refused r) s = filledBy s 0 0 0
+
+-- what loading answers
+abbrev pub loadTable : List ℕ → Loaded
+loadTable s = record { reading = readTable s; table = heldBy (readTable s) s }
