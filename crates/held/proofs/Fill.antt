@@ -5,8 +5,8 @@ use mathlib.Core.List.{List, [], _∷_, _++_, append-assoc}
 use native.Mathlib.Numerals.{add-one}
 use native.Mathlib.Nat.{add-zero}
 use native.Mathlib.Omega.{arith}
-use lib.ListN.{length, set, replicate}
-use lib.Seq.{set-at}
+use lib.ListN.{length, getD, set, take, drop, replicate}
+use lib.Seq.{set-at, drop-cons}
 use Rattle.held.specs.Loading.{every}
 use Rattle.held.specs.Writing.{all}
 
@@ -47,3 +47,27 @@ pub all-append : {A : Type 0} (e : A → List ℕ) (xs ys : List A) → all e (x
 unfolding all
 all-append e [] ys = refl
 all-append e (x ∷ xs) ys = ap (λ (l : List ℕ). e x ++ l) (all-append e xs ys) ∙ sym (append-assoc (e x) (all e xs) (all e ys))
+
+-- ---- what such lists hold
+
+module _ {A : Type 0} where
+  pub getD-every : (f : ℕ → A) (k i j : ℕ) (d : A) → j < k → getD (every f k i) j d ≡ f (i + j)
+  unfolding every
+  getD-every f zero i j d h = absurd (omega arith)
+  getD-every f (suc k) i zero d h = ap f (sym (add-zero i))
+  getD-every f (suc k) i (suc j) d h = let e : i + 1 + j ≡ i + suc j = omega arith in getD-every f k (i + 1) j d (omega arith) ∙ ap f e
+
+  -- equal where they are read
+  pub every-same : (f g : ℕ → A) (k i : ℕ) → ((j : ℕ) → j < i + k → f j ≡ g j) → every f k i ≡ every g k i
+  unfolding every
+  every-same f g zero i h = refl
+  every-same f g (suc k) i h =
+      ap (λ (x : A). x ∷ every f k (i + 1)) (h i (omega arith)) ∙ ap (λ (l : List A). g i ∷ l) (every-same f g k (i + 1) (λ j b. h j (omega arith)))
+
+  -- the entries of a list one by one are the list
+  pub every-take : (xs : List A) (d : A) (k i : ℕ) → i + k ≤ length xs → every (λ (j : ℕ). getD xs j d) k i ≡ take k (drop i xs)
+  unfolding every
+  every-take xs d zero i h = refl
+  every-take xs d (suc k) i h =
+      ap (λ (l : List A). getD xs i d ∷ l) (every-take xs d k (i + 1) (omega arith))
+      ∙ rw add-one (sym (ap (take (suc k)) (drop-cons xs i d (omega arith))))

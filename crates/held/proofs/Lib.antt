@@ -2,3 +2,7 @@ mod Fill
 mod Puts
 mod Loads
 mod Writes
+mod Laying
+mod Again
+pub mod Refusals
+pub mod Trips

@@ -1,2 +1,4 @@
 pub mod Loading
+pub mod Replies
 pub mod Writing
+pub mod Trips

@@ -13,6 +13,7 @@ use Rattle.held.specs.declared.Table.{Table}
 use Rattle.held.specs.declared.Writing.{Writing}
 use Rattle.held.specs.declared.Writing.the-variants as answers
 use Rattle.held.specs.Loading.{noTask, noUse, every}
+use Rattle.held.specs.Replies.{countOf}
 
 -- four bytes, low byte first
 abbrev pub wordBytes : ℕ → List ℕ
@@ -64,11 +65,6 @@ decided (Accepted h) n room = cond (ltb room n) (answers.Refused (record { numbe
 -- what the writer answers
 abbrev pub writeTable : Table → ℕ → Writing
 writeTable t room = decided (readTable (encode t)) (length (encode t)) room
-
--- how many bytes an answer has written
-abbrev pub countOf : Writing → ℕ
-countOf (answers.Written n) = n
-countOf (answers.Refused r) = 0
 
 -- the buffer afterwards: the written bytes at its start, the rest as it was; all as it was after a refusal
 abbrev pub written : Table → List ℕ → List ℕ

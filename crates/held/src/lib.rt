@@ -2,7 +2,8 @@
 ghost use mathlib.Core.Path.{_≡_};
 ghost use lib.ListN.{length};
 ghost use Rattle.held.specs.Loading.{noTask, noUse, loadTable};
-ghost use Rattle.held.specs.Writing.{writeTable, written, decided, countOf};
+ghost use Rattle.held.specs.Replies.{numberOf, placeOf, countOf};
+ghost use Rattle.held.specs.Writing.{writeTable, written, decided};
 
 mod encoder;
 mod loader;
@@ -95,8 +96,28 @@ fn decide(reading: Reading, length: usize, room: usize) -> Writing
     }
 }
 
+// The number of an answer's refusal, 0 where the table was written.
+pub fn number(writing: Writing) -> u8
+    ensures { λ r. ⌜ r ≡ numberOf writing ⌝ }
+{
+    match writing {
+        Writing::Written(_) => 0,
+        Writing::Refused(refusal) => refusal.number,
+    }
+}
+
+// The place of an answer's refusal, 0 where the table was written.
+pub fn place(writing: Writing) -> usize
+    ensures { λ r. ⌜ r ≡ placeOf writing ⌝ }
+{
+    match writing {
+        Writing::Written(_) => 0,
+        Writing::Refused(refusal) => refusal.place,
+    }
+}
+
 // How many bytes an answer has written.
-fn count(writing: Writing) -> usize
+pub fn count(writing: Writing) -> usize
     ensures { λ r. ⌜ r ≡ countOf writing ⌝ }
 {
     match writing {
