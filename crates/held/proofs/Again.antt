@@ -87,12 +87,12 @@ laid-again s bytes h w =
     let m = h .uses in
     let b = h .«uses_at» in
     let tasks = side-by-side taskBytes (taskOf s) s (λ (i : ℕ). 20 * i) 20 (λ j. omega arith) n 0
-          (λ j l. task-bytes s bytes (20 * j) (omega (arith, w .whole, w .start)) (w .task-kind j (omega arith))) in
+    (λ j l. task-bytes s bytes (20 * j) (omega (arith, w .whole, w .start)) (w .task-kind j (omega arith))) in
     let uses = side-by-side useBytes (useOf s b) s (λ (j : ℕ). b + 8 * j) 8 (λ j. omega arith) m 0
-          (λ j l. use-bytes s bytes (b + 8 * j) (omega (arith, w .whole)) (w .use-kind j (omega arith))) in
+    (λ j l. use-bytes s bytes (b + 8 * j) (omega (arith, w .whole)) (w .use-kind j (omega arith))) in
     let end : drop (b + 8 * m) s ≡ 3 ∷ [] =
-          drop-cons s (b + 8 * m) 0 (omega (arith, w .whole)) ∙ ap (λ (x : ℕ). x ∷ drop (suc (b + 8 * m)) s) (w .end-kind)
-          ∙ ap (λ (l : List ℕ). 3 ∷ l) (drop-of-length-le s {i = suc (b + 8 * m)} (omega (arith, w .whole))) in
+    drop-cons s (b + 8 * m) 0 (omega (arith, w .whole)) ∙ ap (λ (x : ℕ). x ∷ drop (suc (b + 8 * m)) s) (w .end-kind)
+    ∙ ap (λ (l : List ℕ). 3 ∷ l) (drop-of-length-le s {i = suc (b + 8 * m)} (omega (arith, w .whole))) in
     let z₁ : 20 * (0 + n) ≡ b = omega (arith, w .start) in
     let z₂ : b + 8 * (0 + m) ≡ b + 8 * m = omega arith in
     let z₃ : b + 8 * 0 ≡ b = omega arith in

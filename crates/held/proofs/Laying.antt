@@ -127,9 +127,13 @@ module _ (ts : List Task) (us : List Use) where
   pub laid-out : Laid laidOut (length ts) (length us)
   laid-out = record {
     whole =
-        omega (arith, length-append (all taskBytes ts) (all useBytes us ++ 3 ∷ []), length-append (all useBytes us) (3 ∷ []),
+        omega (
+          arith,
+          length-append (all taskBytes ts) (all useBytes us ++ 3 ∷ []),
+          length-append (all useBytes us) (3 ∷ []),
           length-all taskBytes 20 (λ x. refl) (λ (k : ℕ). 20 * k) refl (λ j. omega arith) ts,
-          length-all useBytes 8 (λ x. refl) (λ (k : ℕ). 8 * k) refl (λ j. omega arith) us);
+          length-all useBytes 8 (λ x. refl) (λ (k : ℕ). 8 * k) refl (λ j. omega arith) us,
+        );
     task-kind = λ i h. kind-drop laidOut (20 * i) ∙ ap (λ (l : List ℕ). getD l 0 0) (task-record i h);
     use-kind = λ j h. kind-drop laidOut (20 * length ts + 8 * j) ∙ ap (λ (l : List ℕ). getD l 0 0) (use-record j h);
     end-kind = kind-drop laidOut (20 * length ts + 8 * length us) ∙ ap (λ (l : List ℕ). getD l 0 0) end-record;

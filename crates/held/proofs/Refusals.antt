@@ -118,11 +118,11 @@ many-uses t room few h =
     let m = length-beyond noUse 512 (t .uses) (t .«use_count») h in
     let laid = subst (λ (k : ℕ). Laid (encode t) k (length (usesListed t))) n (encode-laid t) in
     let last : getD (usesListed t) 512 noUse ≡ noUse =
-          ap (λ (l : List Use). getD l 512 noUse) (listed-beyond noUse 512 (t .uses) (t .«use_count») h)
-          ∙ ap (λ (k : ℕ). getD (every (λ (i : ℕ). getD (t .uses) i noUse) 512 0 ++ noUse ∷ []) k noUse) (sym (length-every (λ (i : ℕ). getD (t .uses) i noUse) 512 0))
-          ∙ getD-append-seam (every (λ (i : ℕ). getD (t .uses) i noUse) 512 0) noUse [] noUse in
+    ap (λ (l : List Use). getD l 512 noUse) (listed-beyond noUse 512 (t .uses) (t .«use_count») h)
+    ∙ ap (λ (k : ℕ). getD (every (λ (i : ℕ). getD (t .uses) i noUse) 512 0 ++ noUse ∷ []) k noUse) (sym (length-every (λ (i : ℕ). getD (t .uses) i noUse) 512 0))
+    ∙ getD-append-seam (every (λ (i : ℕ). getD (t .uses) i noUse) 512 0) noUse [] noUse in
     let none : useAt (encode t) (20 * t .«task_count» + 4096) .priority ≡ 0 =
-          ap (λ (s : List ℕ). useAt s (20 * t .«task_count» + 4096) .priority) (encode-is t)
-          ∙ ap (λ (k : ℕ). useAt (laidOut (tasksListed t) (usesListed t)) (20 * k + 4096) .priority) (sym n)
-          ∙ use-priority (tasksListed t) (usesListed t) 512 (omega arith) ∙ ap (λ (u : Use). u .priority) last in
+    ap (λ (s : List ℕ). useAt s (20 * t .«task_count» + 4096) .priority) (encode-is t)
+    ∙ ap (λ (k : ℕ). useAt (laidOut (tasksListed t) (usesListed t)) (20 * k + 4096) .priority) (sym n)
+    ∙ use-priority (tasksListed t) (usesListed t) 512 (omega arith) ∙ ap (λ (u : Use). u .priority) last in
     as-read t room _ (overused (encode t) (t .«task_count») (length (usesListed t)) laid few (omega arith) none)

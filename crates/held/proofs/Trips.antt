@@ -63,8 +63,8 @@ bytes-again s bytes h e out room =
     let answer : writeTable (loadTable s .table) (length out) ≡ answers.Written (length s) = accepted-written same in (
       answer,
       ap (λ (a : Writing). take (countOf a) (encode (loadTable s .table)) ++ drop (countOf a) out) answer
-      ∙ ap (λ (l : List ℕ). take (length s) l ++ drop (length s) out) same
-      ∙ ap (λ (l : List ℕ). l ++ drop (length s) out) (take-all (length s) s (omega arith)),
+          ∙ ap (λ (l : List ℕ). take (length s) l ++ drop (length s) out) same
+          ∙ ap (λ (l : List ℕ). l ++ drop (length s) out) (take-all (length s) s (omega arith)),
     )
   where
     -- of an accepted table with room the answer is its length
@@ -143,7 +143,7 @@ module _ (t : Table) (z : Sized t) (h : Shape) (e : readTable (encode t) ≡ Acc
       let own = entry-listed noUse 512 (t .uses) (t .«use_count») uses-few j l in
       ap (λ (x : List ℕ). useOf x (20 * length (tasksListed t)) j) (encode-is t)
       ∙ use-back (tasksListed t) (usesListed t) j (omega (arith, uses-are))
-        (subst (λ (u : Use). u .length < 2 ^ 32) (sym own) (z .use-sized j (omega (arith, uses-few)))) ∙ own
+      (subst (λ (u : Use). u .length < 2 ^ 32) (sym own) (z .use-sized j (omega (arith, uses-few)))) ∙ own
 
   -- a table whose bytes are accepted is what they hold, with the entries past its counts 0
   table-back : loadTable (encode t) .table ≡ trimmed t
@@ -165,7 +165,7 @@ table-again t z out n e =
     let told = written-told (readTable (encode t)) (length (encode t)) (length out) n e in
     let whole : take n (encode t) ≡ encode t = take-all n (encode t) (omega (arith, told .all-of)) in
     let front : take n (written t out) ≡ encode t =
-          ap (λ (a : Writing). take n (take (countOf a) (encode t) ++ drop (countOf a) out)) e
-          ∙ ap (λ (l : List ℕ). take n (l ++ drop n out)) whole
-          ∙ take-at (encode t) (drop n out) n (sym (told .all-of)) in
+    ap (λ (a : Writing). take n (take (countOf a) (encode t) ++ drop (countOf a) out)) e
+    ∙ ap (λ (l : List ℕ). take n (l ++ drop n out)) whole
+    ∙ take-at (encode t) (drop n out) n (sym (told .all-of)) in
     ap (λ (l : List ℕ). loadTable l .table) front ∙ table-back t z (told .shape) (told .accepted)

@@ -17,7 +17,7 @@ use Rattle.table.specs.declared.walk.Turn.{Turn}
 use Rattle.table.specs.declared.walk.Turn.the-variants.{Next, Last}
 use Rattle.table.specs.Fields.{wordAt, taskAt, useAt}
 use Rattle.table.specs.Rules.{placeFrom}
-use Rattle.table.specs.Reading.{startWalk, onward, stepAt, readFrom, readTable}
+use Rattle.table.specs.Reading.{startWalk, refusal, ruled, onward, stepAt, readFrom, readTable}
 use Rattle.table.specs.Sound.{Sound, Stepped, soundNext}
 
 -- ---- past the end all bytes read as 0
@@ -111,8 +111,14 @@ place-first (suc k) s i p m a b e f = go (ℕ-discrete i m) (λ l r. place-first
 pub last-step : (s : List ℕ) (w : Walk) (meant r : Turn) (a : Reading) → r ≡ Last a → meant ≡ Last a → Stepped s w meant r
 last-step s w meant r a e f = record { same = e ∙ sym f; sound = subst (soundNext s w) (sym e) tt }
 
-pub next-step : (s : List ℕ) (w : Walk) (meant r : Turn) (n : Walk) → r ≡ Next n → meant ≡ Next n → Sound s n → w .at < n .at → Stepped s w meant r
-next-step s w meant r n e f g h = record { same = e ∙ sym f; sound = subst (soundNext s w) (sym e) (g, h) }
+-- a step by a rule: on where it says 0, else its refusal
+pub ruled-step : (s : List ℕ) (w : Walk) (meant r : Turn) (k place : ℕ) (n : Walk) → r ≡ ruled k place n → meant ≡ ruled k place n
+    → (k ≡ 0 → Sound s n × (w .at < n .at)) → Stepped s w meant r
+ruled-step s w meant r k place n e f g = record { same = e ∙ sym f; sound = subst (soundNext s w) (sym e) (go (eqb k 0) refl) }
+  where
+    go : (b : Bool) → eqb k 0 ≡ b → soundNext s w (cond b (Next n) (refusal k place))
+    go true q = g (eqb-true k 0 q)
+    go false q = tt
 
 -- ---- the loop over the records: what is left to read from here is what the whole table is
 pub record Going (s : List ℕ) (w : Walk) : Type 0 where

@@ -1,6 +1,6 @@
 // Task tables as bytes: reading one whole, the fields of its records, and a task's record as the caller's own bytes.
 ghost use mathlib.Core.Path.{_≡_};
-ghost use Rattle.table.specs.Reading.{startWalk, readTable};
+ghost use Rattle.table.specs.Reading.{readTable};
 ghost use Rattle.table.specs.Replies.{numberOf, placeOf};
 ghost use Rattle.table.specs.Records.{recordOf};
 

@@ -43,7 +43,10 @@ pub fn task_rule(walk: Walk, task: Task) -> u8
     if 32 <= walk.tasks {
         return 4;
     }
-    if (1 <= walk.uses) | (walk.last <= wide(task.priority)) {
+    if 1 <= walk.uses {
+        return 3;
+    }
+    if walk.last <= wide(task.priority) {
         return 3;
     }
     if task_fits(task) { 0 } else { 5 }

@@ -3,7 +3,7 @@ ghost use mathlib.Core.Path.{_≡_};
 ghost use Prim.Native.Nat.{_+_, _*_, _^_, _≤_, _<_};
 ghost use lib.ListN.{length};
 ghost use Rattle.table.specs.Rules.{withTask, withUse};
-ghost use Rattle.table.specs.Reading.{startWalk, refusal, taskStep, useStep, endStep, stepAt};
+ghost use Rattle.table.specs.Reading.{startWalk, refusal, ruled, taskStep, useStep, endStep, stepAt};
 ghost use Rattle.table.specs.Sound.{Sound, Stepped};
 use crate::Reading;
 use crate::Refusal;
@@ -59,6 +59,17 @@ fn refused(number: u8, place: usize) -> Turn
     Turn::Last(Reading::Refused(Refusal { number, place }))
 }
 
+// On past a record where its rule says 0, else its refusal at the record's place.
+fn ruled(number: u8, place: usize, next: Walk) -> Turn
+    ensures { λ r. ⌜ r ≡ ruled number place next ⌝ }
+{
+    if number == 0 {
+        Turn::Next(next)
+    } else {
+        refused(number, place)
+    }
+}
+
 // The walk past a task.
 fn with_task(walk: Walk, task: Task) -> Walk
     requires { ⌜ (walk .at < 2 ^ 63) × (walk .tasks < 2 ^ 63) ⌝ }
@@ -102,11 +113,7 @@ fn task_step(bytes: &[u8], walk: Walk) -> Turn
     }
     let task = task_at(bytes, at);
     let number = task_rule(walk, task);
-    if number == 0 {
-        Turn::Next(with_task(walk, task))
-    } else {
-        refused(number, at)
-    }
+    ruled(number, at, with_task(walk, task))
 }
 
 // A use record: 7 bytes of body.
@@ -122,11 +129,7 @@ fn use_step(bytes: &[u8], walk: Walk) -> Turn
     let user = place_of(bytes, walk.tasks, walk.user, usage.priority);
     let run = word_at(bytes, 20 * user + 4);
     let number = use_rule(walk, usage, user, run);
-    if number == 0 {
-        Turn::Next(with_use(walk, usage, user))
-    } else {
-        refused(number, at)
-    }
+    ruled(number, at, with_use(walk, usage, user))
 }
 
 // The end record, which has no body and nothing after it.

@@ -1,0 +1,45 @@
+-- `vectors::run_cases` meets its contract.
+use borrow.Author.Needs.{needs}
+use Rattle.vectors.proofs.run_cases.Statement.{statement}
+use Rattle.vectors.proofs.run_cases.Tie as tie
+
+abbrev Inv-loop : tie.InvT-loop
+Inv-loop fd left₀ left = Unit {0}
+
+abbrev μ-loop : tie.MeasureT-loop
+μ-loop fd left₀ left = left
+
+loop-holds : tie.Need-loop-holds Inv-loop μ-loop
+loop-holds c = search needs
+
+run-case-requires : tie.Need-run-case-requires Inv-loop μ-loop
+run-case-requires c κs = search needs
+
+sub-left : tie.Need-sub-left Inv-loop μ-loop
+sub-left c = search needs
+
+loop-less : tie.Need-loop-less Inv-loop μ-loop
+loop-less c = search needs
+
+loop-again : tie.Need-loop-again Inv-loop μ-loop
+loop-again c = search needs
+
+returns : tie.Need-returns Inv-loop μ-loop
+returns c = search needs
+
+returns-2 : tie.Need-returns-2 Inv-loop μ-loop
+returns-2 c = search needs
+
+pub run-cases-spec : {M : Type 1} → statement M
+run-cases-spec =
+    tie.close
+    (tie.spec
+    Inv-loop
+    μ-loop
+    loop-holds
+    run-case-requires
+    sub-left
+    loop-less
+    loop-again
+    returns
+    returns-2)
