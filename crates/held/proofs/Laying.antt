@@ -9,9 +9,8 @@ use lib.ListN.{length, getD, drop, length-append, drop-of-length-le}
 use lib.Seq.{getD-drop, drop-drop, drop-at, drop-cons}
 use Rattle.table.specs.declared.Task.{Task}
 use Rattle.table.specs.declared.Use.{Use}
-use Rattle.table.specs.Fields.{wordAt, taskAt, useAt}
+use Rattle.table.specs.Fields.{wordAt, taskAt, useAt, noTask, noUse}
 use Rattle.table.proofs.Laid.{Laid}
-use Rattle.held.specs.Loading.{noTask, noUse}
 use Rattle.held.specs.Writing.{wordBytes, taskBytes, useBytes, all}
 use Rattle.held.specs.Trips.{TaskSized}
 

@@ -15,13 +15,13 @@ use Rattle.table.specs.declared.Task.{Task}
 use Rattle.table.specs.declared.Use.{Use}
 use Rattle.table.specs.declared.Reading.{Reading}
 use Rattle.table.specs.declared.Reading.the-variants.{Accepted, Refused}
-use Rattle.table.specs.Fields.{useAt}
+use Rattle.table.specs.Fields.{useAt, noTask, noUse}
 use Rattle.table.specs.Reading.{readTable}
 use Rattle.table.proofs.Laid.{Laid, RefusedBy, numbers, crowded, overused}
 use Rattle.held.specs.declared.Table.{Table}
 use Rattle.held.specs.declared.Writing.{Writing}
 use Rattle.held.specs.declared.Writing.the-variants as answers
-use Rattle.held.specs.Loading.{noTask, noUse, every}
+use Rattle.held.specs.Loading.{every}
 use Rattle.held.specs.Writing.{taskBytes, useBytes, all, encode, decided, writeTable}
 use Rattle.held.proofs.Fill.{length-every, all-append}
 use Rattle.held.proofs.Laying.{laidOut, laid-out, use-priority}

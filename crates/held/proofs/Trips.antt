@@ -18,10 +18,11 @@ use Rattle.table.specs.Reading.{readTable}
 use Rattle.table.specs.WellFormed.{taskOf, useOf}
 use Rattle.table.proofs.Accepted.{well-formed}
 use Rattle.table.proofs.Laid.{counts}
+use Rattle.table.specs.Fields.{noTask, noUse}
 use Rattle.held.specs.declared.Table.{Table}
 use Rattle.held.specs.declared.Writing.{Writing}
 use Rattle.held.specs.declared.Writing.the-variants as answers
-use Rattle.held.specs.Loading.{noTask, noUse, every, filledBy, loadTable}
+use Rattle.held.specs.Loading.{every, filledBy, loadTable}
 use Rattle.held.specs.Replies.{countOf}
 use Rattle.held.specs.Writing.{encode, decided, writeTable, written}
 use Rattle.held.specs.Trips.{TaskSized, Sized, trimmed}

@@ -6,17 +6,11 @@ use Rattle.table.specs.declared.Task.{Task}
 use Rattle.table.specs.declared.Use.{Use}
 use Rattle.table.specs.declared.Reading.{Reading}
 use Rattle.table.specs.declared.Reading.the-variants.{Accepted, Refused}
+use Rattle.table.specs.Fields.{noTask, noUse}
 use Rattle.table.specs.Reading.{readTable}
 use Rattle.table.specs.WellFormed.{taskOf, useOf}
 use Rattle.held.specs.declared.Table.{Table}
 use Rattle.held.specs.declared.Loaded.{Loaded}
-
--- the entries that don't count
-abbrev pub noTask : Task
-noTask = record { priority = 0; setting = 0; sleeps = 0; run = 0; sleep = 0; deadline = 0; period = 0 }
-
-abbrev pub noUse : Use
-noUse = record { priority = 0; resource = 0; times = 0; length = 0 }
 
 -- f i, f (i + 1) and so on, k of them
 unfoldable pub every : {A : Type 0} → (ℕ → A) → ℕ → ℕ → List A

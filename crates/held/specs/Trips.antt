@@ -4,8 +4,8 @@ use mathlib.Core.Path.{_≡_}
 use mathlib.Core.List.{List, _++_}
 use lib.ListN.{length, getD, take, replicate}
 use Rattle.table.specs.declared.Task.{Task}
+use Rattle.table.specs.Fields.{noTask, noUse}
 use Rattle.held.specs.declared.Table.{Table}
-use Rattle.held.specs.Loading.{noTask, noUse}
 
 -- the wide fields of a task fit their four bytes
 pub record TaskSized (t : Task) : Type 0 where

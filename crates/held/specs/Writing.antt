@@ -9,10 +9,11 @@ use Rattle.table.specs.declared.Use.{Use}
 use Rattle.table.specs.declared.Reading.{Reading}
 use Rattle.table.specs.declared.Reading.the-variants.{Accepted, Refused}
 use Rattle.table.specs.Reading.{readTable}
+use Rattle.table.specs.Fields.{noTask, noUse}
 use Rattle.held.specs.declared.Table.{Table}
 use Rattle.held.specs.declared.Writing.{Writing}
 use Rattle.held.specs.declared.Writing.the-variants as answers
-use Rattle.held.specs.Loading.{noTask, noUse, every}
+use Rattle.held.specs.Loading.{every}
 use Rattle.held.specs.Replies.{countOf}
 
 -- four bytes, low byte first

@@ -8,10 +8,10 @@ ghost use lib.ListN.{length, take};
 ghost use lib.Seq.{sets};
 ghost use Rattle.held.specs.Writing.{wordBytes, taskBytes, useBytes, tasksBytes, usesBytes, taskPart, usePart, encode};
 use crate::Table;
-use crate::no_task;
-use crate::no_use;
 use table::Task;
 use table::Use;
+use table::no_task;
+use table::no_use;
 
 // A count, or its limit where it is above that.
 fn within(count: usize, limit: usize) -> usize

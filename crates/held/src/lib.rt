@@ -1,7 +1,7 @@
 // A task table held by value: loaded from bytes that the reader accepts, and written as bytes that it would accept.
 ghost use mathlib.Core.Path.{_≡_};
 ghost use lib.ListN.{length};
-ghost use Rattle.held.specs.Loading.{noTask, noUse, loadTable};
+ghost use Rattle.held.specs.Loading.{loadTable};
 ghost use Rattle.held.specs.Replies.{numberOf, placeOf, countOf};
 ghost use Rattle.held.specs.Writing.{writeTable, written, decided};
 
@@ -31,33 +31,6 @@ pub struct Loaded {
 pub enum Writing {
     Written(usize),
     Refused(Refusal),
-}
-
-// A task with every field 0.
-fn no_task() -> Task
-    ensures { λ r. ⌜ r ≡ noTask ⌝ }
-{
-    Task {
-        priority: 0,
-        setting: 0,
-        sleeps: 0,
-        run: 0,
-        sleep: 0,
-        deadline: 0,
-        period: 0,
-    }
-}
-
-// A use with every field 0.
-fn no_use() -> Use
-    ensures { λ r. ⌜ r ≡ noUse ⌝ }
-{
-    Use {
-        priority: 0,
-        resource: 0,
-        times: 0,
-        length: 0,
-    }
 }
 
 // Loads a table: its reading, and its tasks and uses where it is accepted.

@@ -4,10 +4,10 @@ ghost use Prim.Native.Nat.{_+_, _*_, _≤_, _<_};
 ghost use lib.ListN.{length};
 ghost use Rattle.held.specs.Loading.{tasksOf, usesOf, filledBy};
 use crate::Table;
-use crate::no_task;
-use crate::no_use;
 use table::Task;
 use table::Use;
+use table::no_task;
+use table::no_use;
 
 // The tasks, and zeros after them.
 fn load_tasks(bytes: &[u8], count: usize) -> [Task; 32]

@@ -15,7 +15,7 @@ use Rattle.table.specs.declared.Use.{Use}
 use Rattle.table.specs.declared.walk.Walk.{Walk}
 use Rattle.table.specs.declared.walk.Turn.{Turn}
 use Rattle.table.specs.declared.walk.Turn.the-variants.{Next, Last}
-use Rattle.table.specs.Fields.{wordAt, taskAt, useAt}
+use Rattle.table.specs.Fields.{wordAt, noTask, noUse, taskAt, useAt}
 use Rattle.table.specs.Rules.{placeFrom}
 use Rattle.table.specs.Reading.{startWalk, refusal, ruled, onward, stepAt, readFrom, readTable}
 use Rattle.table.specs.Sound.{Sound, Stepped, soundNext}
@@ -43,10 +43,10 @@ module _ (s : List ℕ) (i : ℕ) (past : length s ≤ i) where
       let d = byte-past 3 in
       omega arith
 
-  pub task-past : record { priority = 0; setting = 0; sleeps = 0; run = 0; sleep = 0; deadline = 0; period = 0 } ≡ taskAt s i
+  pub task-past : noTask ≡ taskAt s i
   task-past = cc (byte-past 1, byte-past 2, byte-past 3, word-past-by 4, word-past-by 8, word-past-by 12, word-past-by 16)
 
-  pub use-past : record { priority = 0; resource = 0; times = 0; length = 0 } ≡ useAt s i
+  pub use-past : noUse ≡ useAt s i
   use-past = cc (byte-past 1, byte-past 2, byte-past 3, word-past-by 4)
 
 -- a product of a byte and a word

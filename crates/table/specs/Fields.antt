@@ -9,6 +9,13 @@ use Rattle.table.specs.declared.Use.{Use}
 unfoldable pub wordAt : List ℕ → ℕ → ℕ
 wordAt s i = getD s i 0 + 256 * getD s (i + 1) 0 + 65536 * getD s (i + 2) 0 + 16777216 * getD s (i + 3) 0
 
+-- a task and a use with every field 0
+abbrev pub noTask : Task
+noTask = record { priority = 0; setting = 0; sleeps = 0; run = 0; sleep = 0; deadline = 0; period = 0 }
+
+abbrev pub noUse : Use
+noUse = record { priority = 0; resource = 0; times = 0; length = 0 }
+
 -- the task record that starts at i: its kind byte, then priority, system setting, X, and C, S, D, T of four bytes each
 abbrev pub taskAt : List ℕ → ℕ → Task
 taskAt s i = record {

@@ -2,7 +2,7 @@
 ghost use mathlib.Core.Path.{_≡_};
 ghost use Prim.Native.Nat.{_+_, _*_, _≤_, _<_};
 ghost use lib.ListN.{length, getD};
-ghost use Rattle.table.specs.Fields.{wordAt, taskAt, useAt};
+ghost use Rattle.table.specs.Fields.{wordAt, noTask, noUse, taskAt, useAt};
 use crate::Task;
 use crate::Use;
 
@@ -57,20 +57,39 @@ pub fn word_at(bytes: &[u8], at: usize) -> u32
     cut_word(bytes, at)
 }
 
+// A task with every field 0.
+pub fn no_task() -> Task
+    ensures { λ r. ⌜ r ≡ noTask ⌝ }
+{
+    Task {
+        priority: 0,
+        setting: 0,
+        sleeps: 0,
+        run: 0,
+        sleep: 0,
+        deadline: 0,
+        period: 0,
+    }
+}
+
+// A use with every field 0.
+pub fn no_use() -> Use
+    ensures { λ r. ⌜ r ≡ noUse ⌝ }
+{
+    Use {
+        priority: 0,
+        resource: 0,
+        times: 0,
+        length: 0,
+    }
+}
+
 // The task record that starts at a place.
 pub fn task_at(bytes: &[u8], at: usize) -> Task
     ensures { λ r. ⌜ r ≡ taskAt (now (bytes .entry)) at ⌝ }
 {
     if bytes.len() <= at {
-        return Task {
-            priority: 0,
-            setting: 0,
-            sleeps: 0,
-            run: 0,
-            sleep: 0,
-            deadline: 0,
-            period: 0,
-        };
+        return no_task();
     }
     Task {
         priority: byte_at(bytes, at + 1),
@@ -88,12 +107,7 @@ pub fn use_at(bytes: &[u8], at: usize) -> Use
     ensures { λ r. ⌜ r ≡ useAt (now (bytes .entry)) at ⌝ }
 {
     if bytes.len() <= at {
-        return Use {
-            priority: 0,
-            resource: 0,
-            times: 0,
-            length: 0,
-        };
+        return no_use();
     }
     Use {
         priority: byte_at(bytes, at + 1),

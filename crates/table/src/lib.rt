@@ -9,6 +9,8 @@ mod rules;
 mod walk;
 
 pub use fields::byte_at;
+pub use fields::no_task;
+pub use fields::no_use;
 pub use fields::task_at;
 pub use fields::use_at;
 pub use fields::word_at;

@@ -4,7 +4,7 @@ use borrow.Author.Needs.{needs}
 use lib.Dec.{ltb}
 use mathlib.Core.Path.{ap, _∙_}
 use native.Mathlib.Omega.{arith}
-use Rattle.held.specs.Loading.{noTask}
+use Rattle.table.specs.Fields.{noTask}
 use Rattle.held.specs.Writing.{taskBytes, tasksBytes}
 use Rattle.held.proofs.Puts.{put-beyond}
 use Rattle.held.proofs.encoder.put_task_part.Statement.{statement}

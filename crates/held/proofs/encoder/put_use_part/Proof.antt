@@ -6,8 +6,8 @@ use lib.ListN.{take}
 use mathlib.Core.List.{_++_, append-assoc}
 use mathlib.Core.Path.{ap, _∙_}
 use native.Mathlib.Omega.{arith}
+use Rattle.table.specs.Fields.{noUse}
 use Rattle.held.specs.Writing.{beyondBy, useBytes, usesBytes}
-use Rattle.held.specs.Loading.{noUse}
 use Rattle.held.proofs.Puts.{put-beyond}
 use Rattle.held.proofs.encoder.put_use_part.Statement.{statement}
 use Rattle.held.proofs.encoder.put_use_part.Tie as tie

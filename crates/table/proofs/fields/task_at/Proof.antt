@@ -1,11 +1,15 @@
 -- `table::fields::task_at` meets its contract.
 use borrow.Author.Needs.{needs}
+use mathlib.Core.Path.{_∙_}
 use Rattle.table.proofs.Laws.{task-past}
 use Rattle.table.proofs.fields.task_at.Statement.{statement}
 use Rattle.table.proofs.fields.task_at.Tie as tie
 
+no-task-requires : tie.Need-no-task-requires
+no-task-requires c κs = search needs
+
 returns : tie.Need-returns
-returns c = task-past _ _ (c .if1 .taken)
+returns c = c .no-task .ensures ∙ task-past _ _ (c .before .if1 .taken)
 
 add-byte-at : tie.Need-add-byte-at
 add-byte-at c = search needs
@@ -56,6 +60,7 @@ pub task-at-spec : {M : Type 1} → statement M
 task-at-spec =
     tie.close
     (tie.spec
+    no-task-requires
     returns
     add-byte-at
     byte-at-requires

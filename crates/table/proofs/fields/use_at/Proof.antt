@@ -1,11 +1,15 @@
 -- `table::fields::use_at` meets its contract.
 use borrow.Author.Needs.{needs}
+use mathlib.Core.Path.{_∙_}
 use Rattle.table.proofs.Laws.{use-past}
 use Rattle.table.proofs.fields.use_at.Statement.{statement}
 use Rattle.table.proofs.fields.use_at.Tie as tie
 
+no-use-requires : tie.Need-no-use-requires
+no-use-requires c κs = search needs
+
 returns : tie.Need-returns
-returns c = use-past _ _ (c .if1 .taken)
+returns c = c .no-use .ensures ∙ use-past _ _ (c .before .if1 .taken)
 
 add-byte-at : tie.Need-add-byte-at
 add-byte-at c = search needs
@@ -38,6 +42,7 @@ pub use-at-spec : {M : Type 1} → statement M
 use-at-spec =
     tie.close
     (tie.spec
+    no-use-requires
     returns
     add-byte-at
     byte-at-requires
