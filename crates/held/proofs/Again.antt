@@ -6,10 +6,10 @@ use native.Mathlib.Nat.{add-zero}
 use native.Mathlib.Omega.{arith}
 use lib.ListN.{length, getD, take, drop, take-append-drop, drop-of-length-le}
 use lib.Seq.{drop-cons, drop-drop}
+use Rattle.table.specs.Indexed.{every}
 use Rattle.table.specs.declared.Shape.{Shape}
 use Rattle.table.specs.Fields.{wordAt, taskAt, useAt}
 use Rattle.table.specs.WellFormed.{taskOf, useOf, WellFormed}
-use Rattle.held.specs.Loading.{every}
 use Rattle.held.specs.Writing.{wordBytes, taskBytes, useBytes, all}
 use Rattle.held.proofs.Laying.{laidOut}
 

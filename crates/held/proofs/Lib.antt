@@ -1,4 +1,4 @@
-mod Fill
+mod Joined
 mod Puts
 mod Loads
 mod Writes

@@ -10,6 +10,7 @@ use lib.Dec.{ltb}
 use lib.ListN.{length, getD, length-append, List·getD-append}
 use lib.Seq.{getD-append-seam}
 use borrow.Author.Tests.{lt-ltb, le-ltb}
+use Rattle.table.specs.Indexed.{every}
 use Rattle.table.specs.declared.Refusal.{Refusal}
 use Rattle.table.specs.declared.Task.{Task}
 use Rattle.table.specs.declared.Use.{Use}
@@ -21,9 +22,9 @@ use Rattle.table.proofs.Laid.{Laid, RefusedBy, numbers, crowded, overused}
 use Rattle.held.specs.declared.Table.{Table}
 use Rattle.held.specs.declared.Writing.{Writing}
 use Rattle.held.specs.declared.Writing.the-variants as answers
-use Rattle.held.specs.Loading.{every}
 use Rattle.held.specs.Writing.{taskBytes, useBytes, all, encode, decided, writeTable}
-use Rattle.held.proofs.Fill.{length-every, all-append}
+use Rattle.table.proofs.Indexed.{length-every}
+use Rattle.held.proofs.Joined.{all-append}
 use Rattle.held.proofs.Laying.{laidOut, laid-out, use-priority}
 
 -- ---- the records that are written

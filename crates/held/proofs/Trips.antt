@@ -9,6 +9,7 @@ use lib.Dec.{ltb}
 use lib.ListN.{length, getD, take, drop, replicate, List·getD-append}
 use lib.Seq.{take-at, take-all}
 use borrow.Author.Tests.{ltb-false, le-ltb}
+use Rattle.table.specs.Indexed.{every}
 use Rattle.table.specs.declared.Shape.{Shape}
 use Rattle.table.specs.declared.Task.{Task}
 use Rattle.table.specs.declared.Use.{Use}
@@ -22,11 +23,11 @@ use Rattle.table.specs.Fields.{noTask, noUse}
 use Rattle.held.specs.declared.Table.{Table}
 use Rattle.held.specs.declared.Writing.{Writing}
 use Rattle.held.specs.declared.Writing.the-variants as answers
-use Rattle.held.specs.Loading.{every, filledBy, loadTable}
+use Rattle.held.specs.Loading.{filledBy, loadTable}
 use Rattle.held.specs.Replies.{countOf}
 use Rattle.held.specs.Writing.{encode, decided, writeTable, written}
 use Rattle.held.specs.Trips.{TaskSized, Sized, trimmed}
-use Rattle.held.proofs.Fill.{length-every, getD-every, every-same, every-take}
+use Rattle.table.proofs.Indexed.{length-every, getD-every, every-same, every-take}
 use Rattle.held.proofs.Laying.{laidOut, task-back, use-back}
 use Rattle.held.proofs.Again.{laid-again}
 use Rattle.held.proofs.Loads.{held-accepted}

@@ -1,21 +1,17 @@
 -- What a held table has of the bytes: a record for each count, and zeros after them; all zeros where the bytes are refused.
-use Prim.Native.Nat.{ℕ, zero, suc, _+_, _*_, _-_}
-use mathlib.Core.List.{List, [], _∷_, _++_}
+use Prim.Native.Nat.{ℕ, _-_}
+use mathlib.Core.List.{List, _++_}
 use lib.ListN.{replicate}
 use Rattle.table.specs.declared.Task.{Task}
 use Rattle.table.specs.declared.Use.{Use}
 use Rattle.table.specs.declared.Reading.{Reading}
 use Rattle.table.specs.declared.Reading.the-variants.{Accepted, Refused}
 use Rattle.table.specs.Fields.{noTask, noUse}
+use Rattle.table.specs.Indexed.{every}
 use Rattle.table.specs.Reading.{readTable}
 use Rattle.table.specs.WellFormed.{taskOf, useOf}
 use Rattle.held.specs.declared.Table.{Table}
 use Rattle.held.specs.declared.Loaded.{Loaded}
-
--- f i, f (i + 1) and so on, k of them
-unfoldable pub every : {A : Type 0} → (ℕ → A) → ℕ → ℕ → List A
-every f zero i = []
-every f (suc k) i = f i ∷ every f k (i + 1)
 
 -- the first n tasks of the bytes, and zeros up to 32
 abbrev pub tasksOf : List ℕ → ℕ → List Task

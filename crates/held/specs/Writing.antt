@@ -4,6 +4,7 @@ use mathlib.Core.List.{List, [], _∷_, _++_}
 use mathlib.Core.Bool.{cond}
 use lib.Dec.{ltb}
 use lib.ListN.{length, getD, take, drop}
+use Rattle.table.specs.Indexed.{every}
 use Rattle.table.specs.declared.Task.{Task}
 use Rattle.table.specs.declared.Use.{Use}
 use Rattle.table.specs.declared.Reading.{Reading}
@@ -13,7 +14,6 @@ use Rattle.table.specs.Fields.{noTask, noUse}
 use Rattle.held.specs.declared.Table.{Table}
 use Rattle.held.specs.declared.Writing.{Writing}
 use Rattle.held.specs.declared.Writing.the-variants as answers
-use Rattle.held.specs.Loading.{every}
 use Rattle.held.specs.Replies.{countOf}
 
 -- four bytes, low byte first

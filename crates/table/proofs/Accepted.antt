@@ -18,8 +18,9 @@ use Rattle.table.specs.declared.Reading.the-variants.{Accepted}
 use Rattle.table.specs.Fields.{taskAt, useAt, wordAt}
 use Rattle.table.specs.Rules.{taskRule, useRule, placeFrom, sumAfter, withTask, withUse}
 use Rattle.table.specs.Reading.{startWalk, userAt, readTable}
-use Rattle.table.specs.Sums.{sumTo}
+use Rattle.table.specs.Indexed.{sumTo}
 use Rattle.table.specs.WellFormed.{taskOf, useOf, userOf, sectionsBy, TaskInRange, UseInRange, WellFormed}
+use Rattle.table.proofs.Indexed.{no-sum, sum-more}
 use Rattle.table.proofs.Laws.{place-within, place-has, place-first}
 use Rattle.table.proofs.Told.{TaskStands, task-stands, UseStands, use-stands}
 use Rattle.table.proofs.Walked.{Ended, accepted}
@@ -74,15 +75,6 @@ seen-start s = record {
   unused = λ i h. refl;
   sections = λ i h. absurd (omega arith);
 }
-
--- no use yet: any sum is 0
-no-sum : (n : ℕ) (f : ℕ → ℕ) → n ≡ 0 → sumTo n f ≡ 0
-unfolding sumTo
-no-sum n f e = rw e
-
-sum-more : (n : ℕ) (f : ℕ → ℕ) → sumTo (n + 1) f ≡ sumTo n f + f n
-unfolding sumTo
-sum-more n f = rw add-one
 
 pub seen-task : (s : List ℕ) (w : Walk) → Seen s w → getD s (w .at) 0 ≡ 1 → w .at + 20 ≤ length s → taskRule w (taskAt s (w .at)) ≡ 0
     → Seen s (withTask w (taskAt s (w .at)))

@@ -19,8 +19,9 @@ use Rattle.table.specs.Fields.{taskAt, useAt, wordAt}
 use Rattle.table.specs.Ranges.{taskFits, useFits}
 use Rattle.table.specs.Rules.{taskRule, useRule, sumAfter, withTask, withUse}
 use Rattle.table.specs.Reading.{startWalk, taskStep, useStep, endStep, stepAt, userAt, onward, readFrom, readTable}
-use Rattle.table.specs.Sums.{sumTo}
+use Rattle.table.specs.Indexed.{sumTo}
 use Rattle.table.specs.WellFormed.{taskOf, useOf, userOf, sectionsBy, TaskInRange, UseInRange, WellFormed}
+use Rattle.table.proofs.Indexed.{sum-grows}
 use Rattle.table.proofs.Laws.{place-has, place-first}
 use Rattle.table.proofs.Told.{TaskStands, UseStands}
 use Rattle.table.proofs.Accepted.{Seen, seen-start, seen-task, seen-use, sum-own}
@@ -160,16 +161,6 @@ over-task s h w f g l =
     }
 
 -- ---- a use
-
--- more uses add up to no less
-sum-grows : (n k : ℕ) (f : ℕ → ℕ) → k ≤ n → sumTo k f ≤ sumTo n f
-unfolding sumTo
-sum-grows zero k f l = let z : k ≡ 0 = omega arith in rw z (omega arith)
-sum-grows (suc n) k f l = go (ℕ-discrete k (suc n)) (sum-grows n k f)
-  where
-    go : Dec (k ≡ suc n) → (k ≤ n → sumTo k f ≤ sumTo n f) → sumTo k f ≤ sumTo n f + f n
-    go (yes e) more = rw e (omega arith)
-    go (no d) more = omega (arith, more (omega arith))
 
 -- the shape of a table whose tasks the walk is past, with m uses
 abbrev past-tasks : Walk → ℕ → Shape

@@ -1,3 +1,4 @@
+pub mod Indexed
 mod Laws
 mod Told
 mod Walked

@@ -4,6 +4,6 @@ pub mod Rules
 pub mod Reading
 pub mod Replies
 pub mod Records
-pub mod Sums
+pub mod Indexed
 pub mod WellFormed
 pub mod Sound

@@ -10,7 +10,7 @@ use Rattle.table.specs.declared.Task.{Task}
 use Rattle.table.specs.declared.Use.{Use}
 use Rattle.table.specs.Fields.{taskAt, useAt}
 use Rattle.table.specs.Rules.{placeFrom}
-use Rattle.table.specs.Sums.{sumTo}
+use Rattle.table.specs.Indexed.{sumTo}
 
 -- the task at place i
 abbrev pub taskOf : List ℕ → ℕ → Task

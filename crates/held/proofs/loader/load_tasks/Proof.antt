@@ -7,7 +7,7 @@ use native.Mathlib.Omega.{arith}
 use Rattle.table.specs.WellFormed.{taskOf}
 use Rattle.table.specs.Fields.{noTask}
 use Rattle.held.specs.Loading.{tasksOf}
-use Rattle.held.proofs.Fill.{fill-start, fill-more}
+use Rattle.table.proofs.Indexed.{fill-start, fill-more}
 use Rattle.held.proofs.loader.load_tasks.Statement.{statement}
 use Rattle.held.proofs.loader.load_tasks.Tie as tie
 

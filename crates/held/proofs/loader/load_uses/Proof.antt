@@ -7,7 +7,7 @@ use native.Mathlib.Omega.{arith}
 use Rattle.table.specs.WellFormed.{useOf}
 use Rattle.table.specs.Fields.{noUse}
 use Rattle.held.specs.Loading.{usesOf}
-use Rattle.held.proofs.Fill.{fill-start, fill-more}
+use Rattle.table.proofs.Indexed.{fill-start, fill-more}
 use Rattle.held.proofs.loader.load_uses.Statement.{statement}
 use Rattle.held.proofs.loader.load_uses.Tie as tie
 

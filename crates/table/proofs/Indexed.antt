@@ -1,14 +1,38 @@
--- Lists that a loop fills from the front, one entry a turn: after i turns f 0 to f (i - 1), and then what stood there at the start.
+-- Laws of sums and lists over an index.
 use Prim.Native.Nat.{ℕ, zero, suc, _+_, _-_, _<_, _≤_}
 use mathlib.Core.Path.{_≡_, refl, sym, ap, _∙_}
 use mathlib.Core.List.{List, [], _∷_, _++_, append-assoc}
 use native.Mathlib.Numerals.{add-one}
 use native.Mathlib.Nat.{add-zero}
+use native.Mathlib.Decide.{ℕ-discrete}
 use native.Mathlib.Omega.{arith}
 use lib.ListN.{length, getD, set, take, drop, replicate}
 use lib.Seq.{set-at, drop-cons}
-use Rattle.held.specs.Loading.{every}
-use Rattle.held.specs.Writing.{all}
+use Rattle.table.specs.Indexed.{sumTo, every}
+
+-- ---- sums
+
+-- of nothing
+pub no-sum : (n : ℕ) (f : ℕ → ℕ) → n ≡ 0 → sumTo n f ≡ 0
+unfolding sumTo
+no-sum n f e = rw e
+
+-- of one more
+pub sum-more : (n : ℕ) (f : ℕ → ℕ) → sumTo (n + 1) f ≡ sumTo n f + f n
+unfolding sumTo
+sum-more n f = rw add-one
+
+-- more add up to no less
+pub sum-grows : (n k : ℕ) (f : ℕ → ℕ) → k ≤ n → sumTo k f ≤ sumTo n f
+unfolding sumTo
+sum-grows zero k f l = let z : k ≡ 0 = omega arith in rw z (omega arith)
+sum-grows (suc n) k f l = go (ℕ-discrete k (suc n)) (sum-grows n k f)
+  where
+    go : Dec (k ≡ suc n) → (k ≤ n → sumTo k f ≤ sumTo n f) → sumTo k f ≤ sumTo n f + f n
+    go (yes e) more = rw e (omega arith)
+    go (no d) more = omega (arith, more (omega arith))
+
+-- ---- lists that a loop fills from the front, one entry a turn
 
 module _ {A : Type 0} (f : ℕ → A) where
   pub length-every : (k i : ℕ) → length (every f k i) ≡ k
@@ -41,12 +65,6 @@ module _ {A : Type 0} (f : ℕ → A) where
         let e : total - i ≡ suc (total - (i + 1)) = omega arith in
         rw (e, every-more i, append-assoc)
         (set-at (every f i 0) none (replicate (total - (i + 1)) none) (f i) i (length-every i 0))
-
--- records one after the other, of two lists joined
-pub all-append : {A : Type 0} (e : A → List ℕ) (xs ys : List A) → all e (xs ++ ys) ≡ all e xs ++ all e ys
-unfolding all
-all-append e [] ys = refl
-all-append e (x ∷ xs) ys = ap (λ (l : List ℕ). e x ++ l) (all-append e xs ys) ∙ sym (append-assoc (e x) (all e xs) (all e ys))
 
 -- ---- what such lists hold
 
