@@ -1,5 +1,5 @@
 pub mod Indexed
-mod Laws
+pub mod Laws
 mod Told
 mod Walked
 pub mod Accepted

@@ -14,6 +14,7 @@ pub use fields::no_use;
 pub use fields::task_at;
 pub use fields::use_at;
 pub use fields::word_at;
+pub use rules::place_of;
 
 // A task: its priority, system setting, most sleeps X, run time C, sleep S, deadline D and period T.
 pub struct Task {

@@ -1,0 +1,89 @@
+-- Laws of the scans over a table's uses.
+use Prim.Native.Nat.{ℕ, zero, suc, _+_, _*_, max, _≤_, _<_}
+use mathlib.Core.Path.{_≡_, refl, sym, ap, subst, _∙_}
+use mathlib.Core.Bool.{Bool, true, false, cond}
+use mathlib.Core.List.{List}
+use native.Mathlib.Numerals.{add-one}
+use native.Mathlib.Decide.{ℕ-discrete, decLt}
+use native.Mathlib.Omega.{arith}
+use lib.Dec.{eqb}
+use lib.ListN.{getD, length, set}
+use lib.Seq.{getD-set-same, getD-set-other}
+use borrow.Author.Tests.{eq-eqb, ne-eqb}
+use Rattle.table.specs.declared.Shape.{Shape}
+use Rattle.table.specs.WellFormed.{taskOf, useOf, userOf, WellFormed}
+use Rattle.table.proofs.Laws.{place-has}
+use Rattle.equations.specs.Counting.{maxTo}
+use Rattle.equations.specs.View.{viewOf}
+use Rattle.equations.specs.Ready.{UsesFrom, reachingLength, Longest}
+use Rattle.equations.proofs.Counting.{max-more}
+
+-- ---- ceilings
+
+-- the ceiling of r over the first k uses, which start at a place
+abbrev pub ceilingTo : List ℕ → ℕ → ℕ → ℕ → ℕ
+ceilingTo s start k r = maxTo k (λ j. cond (eqb (useOf s start j .resource) r) (useOf s start j .priority) 0)
+
+pub ceilings-start : (s : List ℕ) (start r : ℕ) → 0 ≡ ceilingTo s start 0 r
+unfolding maxTo
+ceilings-start s start r = refl
+
+-- with one use more, the ceiling of its resource is raised to its priority
+pub ceilings-next : (s : List ℕ) (start k : ℕ) (found : List ℕ) (x new : ℕ) → length found ≡ 32 → ((r : ℕ) → r ≤ 16 → getD found r 0 ≡ ceilingTo s start k r)
+    → x ≡ useOf s start k .resource → x ≤ 16 → new ≡ max (getD found x 0) (useOf s start k .priority)
+    → (r : ℕ) → r ≤ 16 → getD (set found x new) r 0 ≡ ceilingTo s start (k + 1) r
+unfolding maxTo
+ceilings-next s start k found x new size inv own few e r l = rw add-one (go (ℕ-discrete r x))
+  where
+    go : Dec (r ≡ x) → getD (set found x new) r 0 ≡ max (ceilingTo s start k r) (cond (eqb (useOf s start k .resource) r) (useOf s start k .priority) 0)
+    go (yes q) =
+        rw (q, eq-eqb (useOf s start k .resource) x (sym own))
+        (getD-set-same found x new 0 (omega arith) ∙ e ∙ ap (λ (y : ℕ). max y (useOf s start k .priority)) (inv x few))
+    go (no n) =
+        rw (ne-eqb (useOf s start k .resource) r (λ z. n (sym z ∙ sym own)))
+        (getD-set-other found x r new 0 n ∙ inv r l ∙ omega arith)
+
+-- ---- uses by priority
+
+-- a use has the priority of its task
+pub use-priority : (s : List ℕ) (h : Shape) → WellFormed s h → (k : ℕ) → k < h .uses
+    → taskOf s (userOf s (h .tasks) (h .«uses_at») k) .priority ≡ useOf s (h .«uses_at») k .priority
+use-priority s h w k l = place-has (h .tasks) s 0 (useOf s (h .«uses_at») k .priority) (omega (arith, w .owned k l))
+
+-- later uses have no higher priority
+pub uses-fall : (s : List ℕ) (h : Shape) → WellFormed s h → (j k : ℕ) → j ≤ k → k < h .uses
+    → useOf s (h .«uses_at») k .priority ≤ useOf s (h .«uses_at») j .priority
+uses-fall s h w j k l m = go (ℕ-discrete j k) (ℕ-discrete (user j) (user k))
+  where
+    user : ℕ → ℕ
+    user i = userOf s (h .tasks) (h .«uses_at») i
+
+    go : Dec (j ≡ k) → Dec (user j ≡ user k) → useOf s (h .«uses_at») k .priority ≤ useOf s (h .«uses_at») j .priority
+    go (yes e) d = rw e (omega arith)
+    go (no n) (yes e) =
+        omega (arith, use-priority s h w j (omega arith), use-priority s h w k m, ap (λ (i : ℕ). taskOf s i .priority) e)
+    go (no n) (no d) =
+        omega (
+          arith,
+          use-priority s h w j (omega arith),
+          use-priority s h w k m,
+          w .falling (user j) (user k) (omega (arith, w .in-order j k (omega arith) m)) (w .owned k m),
+        )
+
+-- where the first r uses have at least the priority p and use r hasn't, none after it has
+pub uses-from : (s : List ℕ) (h : Shape) → WellFormed s h → (p r : ℕ) → r ≤ h .uses → ((k : ℕ) → k < r → p ≤ useOf s (h .«uses_at») k .priority)
+    → (r < h .uses → useOf s (h .«uses_at») r .priority < p) → UsesFrom s h p r
+uses-from s h w p r l before here = record {
+  within = l;
+  before = before;
+  after = λ k a b. omega (arith, uses-fall s h w r k a b, here (omega arith));
+}
+
+-- ---- the longest
+
+-- with one use more
+pub longest-next : (s ceilings : List ℕ) (start p first k best new : ℕ) → first ≤ k → Longest s ceilings start p first k best
+    → new ≡ max best (reachingLength s ceilings start p k) → Longest s ceilings start p first (k + 1) new
+longest-next s ceilings start p first k best new l h e f none is =
+    e ∙ ap (λ (x : ℕ). max x (reachingLength s ceilings start p k)) (h f none (λ j a b. is j a (omega arith)))
+    ∙ ap (max (maxTo k f)) (sym (is k l (omega arith))) ∙ sym (max-more k f)

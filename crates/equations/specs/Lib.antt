@@ -1,0 +1,6 @@
+pub mod Counting
+pub mod Bag
+pub mod View
+pub mod Equations
+pub mod Picking
+pub mod Ready
