@@ -1,0 +1,4 @@
+mod Table
+mod Turning
+mod Settling
+mod Starting
