@@ -2,3 +2,5 @@ mod Table
 mod Turning
 mod Settling
 mod Starting
+mod Answering
+pub mod Right

@@ -12,17 +12,17 @@ use Rattle.rounds.specs.RoundsLoop.{Going, going-start, going-over, going-next,
 use Rattle.analysis.specs.declared.turns.Round.{Round}
 use Rattle.analysis.specs.Rounding.{progress, bounded, Rounded, Settled}
 
-module _ (S : System) (L : Lawful S) (allowance : ℕ) where
+module _ (n : ℕ) (S : System) (L : Lawful S) (allowance : ℕ) where
   -- the rounds begin at the deadlines
   pub begins : (v : List ℕ) (made : ℕ) → progress v made ≡ begin S → Going S allowance (progress v made)
   begins v made e = subst (Going S allowance) (sym e) (going-start S L allowance)
 
   module _ (v w : List ℕ) (made : ℕ) (bounds : List Bool) (r : Round) (g : Going S allowance (progress v made))
-      (k : Rounded allowance S (progress v made) w bounds r) where
+      (k : Rounded n allowance S (progress v made) w bounds r) where
     -- the allowance is spent in this round
-    pub spent-here : r .spent ≡ true → Settled allowance S w bounds r
+    pub spent-here : r .spent ≡ true → Settled n allowance S w bounds r
     spent-here e = record {
-      sized = k .sized;
+      marks = k .marks;
       within = λ z. absurd (let y : _≡_ {A = ℕ} 0 1 = cc in omega arith);
       beyond = λ z. going-over S L allowance (progress v made) g (k .beyond e);
     }
@@ -39,12 +39,12 @@ module _ (S : System) (L : Lawful S) (allowance : ℕ) where
         )
 
     -- it changes none: it is the last
-    pub last-round : r .spent ≡ false → r .changed ≡ false → Settled allowance S w bounds r
+    pub last-round : r .spent ≡ false → r .changed ≡ false → Settled n allowance S w bounds r
     last-round e f =
         let left = k .within e in
         let is = sym (left .told) ∙ f in
         record {
-          sized = k .sized;
+          marks = k .marks;
           within = λ z. record {
             done = left .done ∙ sym (going-end S L allowance (progress v made) g is);
             counted = left .counted;

@@ -23,7 +23,7 @@ use Rattle.rounds.specs.Rounds.{Progress, reply, lowers, changed, answerIn}
 use Rattle.rounds.specs.RoundLoop.{Turned, turned-over, turned-next, turned-answer, turned-end}
 use Rattle.analysis.specs.declared.Reply.{Reply}
 use Rattle.analysis.specs.declared.turns.Round.{Round}
-use Rattle.analysis.specs.Rounding.{progress, Rounded}
+use Rattle.analysis.specs.Rounding.{progress, Marks, Rounded}
 use Rattle.analysis.specs.Solving.{Solved}
 use Rattle.analysis.proofs.Table.{equationsOf, table-lawful, table-size, deadline-is}
 
@@ -83,28 +83,28 @@ replied-at s settings v h i made allowance q r k g =
     (subst (λ x. Solved allowance (reply (equationsOf s x settings) (q .task) v made) r) (k .shape) g)
 
 -- where the round stands before turn i: the definition's turns, and which of the tasks so far have a bound
-pub record Standing (S : System) (origin : Progress) (allowance i : ℕ) (now : Progress) (flag : Bool) (bounds : List Bool) : Type 0 where
+pub record Standing (n : ℕ) (S : System) (origin : Progress) (allowance i : ℕ) (now : Progress) (flag : Bool) (bounds : List Bool) : Type 0 where
   pub turned : Turned S origin allowance i now flag
-  pub sized : length bounds ≡ 32
+  pub marks : Marks n bounds
   pub marked : (j : ℕ) → j < i → getD bounds j false ≡ bounded (answerIn S origin j)
 
 module _ (s settings v : List ℕ) (h : Shape) (w : WellFormed s h) (origin : Progress) (allowance i made : ℕ) (flag : Bool) (bounds : List Bool)
-    (g : Standing (equationsOf s h settings) origin allowance i (progress v made) flag bounds) (l : i < h .tasks)
+    (g : Standing (h .tasks) (equationsOf s h settings) origin allowance i (progress v made) flag bounds) (l : i < h .tasks)
     (r : Reply) (k : Solved allowance (reply (equationsOf s h settings) i v made) r) where
   inside : i < size (equationsOf s h settings)
   inside = rw (table-size s h settings w) l
 
   -- the allowance is spent: the round passes it
-  pub spent-round : (x : Round) → x .spent ≡ true → r .spent ≡ true → (u : List ℕ) → Rounded allowance (equationsOf s h settings) origin u bounds x
+  pub spent-round : (x : Round) → x .spent ≡ true → r .spent ≡ true → (u : List ℕ) → Rounded (h .tasks) allowance (equationsOf s h settings) origin u bounds x
   spent-round x e f u = record {
-    sized = g .sized;
+    marks = g .marks;
     within = λ z. absurd (let y : _≡_ {A = ℕ} 0 1 = cc in omega arith);
     beyond = λ z. turned-over (equationsOf s h settings) origin allowance i (progress v made) flag (g .turned) inside (k .beyond f);
   }
 
   -- one turn further
   pub next-turn : r .spent ≡ false → (b : Bool) → b ≡ isBound (r .answer) → (u : List ℕ) (raised : Bool) → Lowers v i (r .answer) flag u raised
-      → Standing (equationsOf s h settings) origin allowance (i + 1) (progress u (r .evaluations)) raised (set bounds i b)
+      → Standing (h .tasks) (equationsOf s h settings) origin allowance (i + 1) (progress u (r .evaluations)) raised (set bounds i b)
   next-turn f b e u raised low =
       let whole = k .within f in
       let turned = turned-next (equationsOf s h settings) origin allowance i (progress v made) flag (g .turned) (table-lawful s h settings w) inside
@@ -114,22 +114,25 @@ module _ (s settings v : List ℕ) (h : Shape) (w : WellFormed s h) (origin : Pr
       record {
         turned = subst (λ x. Turned (equationsOf s h settings) origin allowance (i + 1) (progress u (r .evaluations)) x) (sym (low .raised))
             (subst (λ x. Turned (equationsOf s h settings) origin allowance (i + 1) (progress x (r .evaluations)) (lowers v i (answerOf (r .answer)) || flag)) (sym (low .vector)) turned);
-        sized = length-set bounds i b ∙ g .sized;
+        marks = record {
+          sized = length-set bounds i b ∙ g .marks .sized;
+          rest = λ j p. getD-set-other bounds i j b false (λ z. omega arith) ∙ g .marks .rest j p;
+        };
         marked = below-more (λ j. getD (set bounds i b) j false ≡ bounded (answerIn (equationsOf s h settings) origin j)) i
             (λ j p. getD-set-other bounds i j b false (λ z. omega arith) ∙ g .marked j p)
-            (getD-set-same bounds i b false (omega (arith, g .sized, w .tasks-most)) ∙ e ∙ bound-same (r .answer) ∙ ap bounded (sym told));
+            (getD-set-same bounds i b false (omega (arith, g .marks .sized, w .tasks-most)) ∙ e ∙ bound-same (r .answer) ∙ ap bounded (sym told));
       }
 
 -- after the last turn the round is done
 pub done-round : (s settings v : List ℕ) (h : Shape) (origin : Progress) (allowance i made : ℕ) (flag : Bool) (bounds : List Bool)
-    → WellFormed s h → Standing (equationsOf s h settings) origin allowance i (progress v made) flag bounds → h .tasks ≤ i
-    → Rounded allowance (equationsOf s h settings) origin v bounds (record { evaluations = made; changed = flag; spent = false })
+    → WellFormed s h → Standing (h .tasks) (equationsOf s h settings) origin allowance i (progress v made) flag bounds → h .tasks ≤ i
+    → Rounded (h .tasks) allowance (equationsOf s h settings) origin v bounds (record { evaluations = made; changed = flag; spent = false })
 done-round s settings v h origin allowance i made flag bounds w g l =
     let S = equationsOf s h settings in
     let size-is = table-size s h settings w in
     let end = turned-end S origin allowance i (progress v made) flag (g .turned) (omega arith) in
     record {
-      sized = g .sized;
+      marks = g .marks;
       within = λ z. record {
         done = end;
         counted = g .turned .counted;

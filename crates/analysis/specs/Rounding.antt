@@ -38,6 +38,11 @@ pub record Listed (s : List ℕ) (h : Shape) (ceilings : List ℕ) : Type 0 wher
   pub bytes : (j : ℕ) → getD s j 0 ≤ 255
   pub ceilings-are : CeilingsAre s h ceilings
 
+-- marks for n tasks: none past them
+pub record Marks (n : ℕ) (bounds : List Bool) : Type 0 where
+  pub sized : length bounds ≡ 32
+  pub rest : (j : ℕ) → n ≤ j → getD bounds j false ≡ false
+
 -- what a round within the allowance leaves: the definition's vector and count, whether it changed, and which tasks have a bound
 pub record Left (allowance : ℕ) (S : System) (s : Progress) (w : List ℕ) (bounds : List Bool) (r : Round) : Type 0 where
   pub done : progress w (r .evaluations) ≡ round S s
@@ -46,8 +51,8 @@ pub record Left (allowance : ℕ) (S : System) (s : Progress) (w : List ℕ) (bo
   pub bounds-are : (i : ℕ) → i < size S → getD bounds i false ≡ bounded (answerIn S s i)
 
 -- a round, or that its count passes the allowance
-pub record Rounded (allowance : ℕ) (S : System) (s : Progress) (w : List ℕ) (bounds : List Bool) (r : Round) : Type 0 where
-  pub sized : length bounds ≡ 32
+pub record Rounded (n allowance : ℕ) (S : System) (s : Progress) (w : List ℕ) (bounds : List Bool) (r : Round) : Type 0 where
+  pub marks : Marks n bounds
   pub within : r .spent ≡ false → Left allowance S s w bounds r
   pub beyond : r .spent ≡ true → allowance < round S s .evaluations
 
@@ -58,7 +63,7 @@ pub record Final (allowance : ℕ) (S : System) (w : List ℕ) (bounds : List Bo
   pub bounds-are : (i : ℕ) → i < size S → getD bounds i false ≡ bounded (answer S i)
 
 -- the analysis, or that its total passes the allowance
-pub record Settled (allowance : ℕ) (S : System) (w : List ℕ) (bounds : List Bool) (r : Round) : Type 0 where
-  pub sized : length bounds ≡ 32
+pub record Settled (n allowance : ℕ) (S : System) (w : List ℕ) (bounds : List Bool) (r : Round) : Type 0 where
+  pub marks : Marks n bounds
   pub within : r .spent ≡ false → Final allowance S w bounds r
   pub beyond : r .spent ≡ true → allowance < analysis S .evaluations

@@ -1,8 +1,15 @@
 // The analysis of a table: each task's bound, or none, by rounds until one changes nothing, within an allowance of evaluations.
+ghost use mathlib.Core.Path.{_≡_};
+ghost use Rattle.table.specs.declared.Reading.the-variants.{Accepted};
+ghost use Rattle.table.specs.WellFormed.{WellFormed};
+ghost use Rattle.analysis.specs.Analysing.{refusedBy, analysedAs, analysed};
+
 mod solver;
 mod starts;
 mod turns;
 
+use table::Reading;
+use table::Refusal;
 use table::Shape;
 
 // What a task is answered: its bound, or none.
@@ -28,4 +35,77 @@ pub struct Reply {
 pub struct Stand {
     pub shape: Shape,
     pub budget: Budget,
+}
+
+// What the analysis of a table answers: a refusal, with number 0 where there is none; the tasks and the evaluations; and for each task its
+// value in the final vector, and whether it is a bound.
+pub struct Analysis {
+    pub refusal: Refusal,
+    pub tasks: usize,
+    pub evaluations: u64,
+    pub values: [u64; 32],
+    pub bounds: [bool; 32],
+}
+
+// A refusal: everything else is 0.
+fn refused(refusal: Refusal) -> Analysis
+    ensures { λ r. ⌜ r ≡ refusedBy refusal ⌝ }
+{
+    Analysis {
+        refusal,
+        tasks: 0,
+        evaluations: 0,
+        values: [0; 32],
+        bounds: [false; 32],
+    }
+}
+
+// The analysis of an accepted table under the settings that it names.
+fn analyse_accepted(bytes: &[u8], shape: Shape, allowance: u64) -> Analysis
+    requires { ⌜ WellFormed (now bytes) shape ⌝ }
+    ensures { λ r. ⌜ r ≡ analysedAs (Accepted shape) (now (bytes .entry)) allowance ⌝ }
+{
+    let tasks = shape.tasks;
+    let settings = starts::own_settings(bytes, tasks);
+    let ceilings = equations::ceilings(bytes, shape);
+    let mut values = [0u64; 32];
+    let mut bounds = [false; 32];
+    let stand = Stand {
+        shape,
+        budget: Budget { made: 0, allowance },
+    };
+    let round = starts::settle(
+        bytes,
+        &settings,
+        &ceilings,
+        &mut values[..tasks],
+        &mut bounds,
+        stand,
+    );
+    if round.spent {
+        return refused(Refusal {
+            number: 8,
+            place: 0,
+        });
+    }
+    Analysis {
+        refusal: Refusal {
+            number: 0,
+            place: 0,
+        },
+        tasks,
+        evaluations: round.evaluations,
+        values,
+        bounds,
+    }
+}
+
+// The analysis of a table within an allowance of evaluations.
+pub fn analyse(bytes: &[u8], allowance: u64) -> Analysis
+    ensures { λ r. ⌜ r ≡ analysed (now (bytes .entry)) allowance ⌝ }
+{
+    match table::read(bytes) {
+        Reading::Accepted(shape) => analyse_accepted(bytes, shape, allowance),
+        Reading::Refused(refusal) => refused(refusal),
+    }
 }

@@ -7,7 +7,7 @@ ghost use Rattle.rounds.specs.Rounds.{begin};
 ghost use Rattle.equations.specs.View.{viewOf};
 ghost use Rattle.equations.specs.Equations.{systemOf};
 ghost use Rattle.analysis.specs.Solving.{isBound};
-ghost use Rattle.analysis.specs.Rounding.{Lowers, Listed, Rounded, Settled, progress};
+ghost use Rattle.analysis.specs.Rounding.{Lowers, Listed, Marks, Rounded, Settled, progress};
 use crate::Answer;
 use crate::Budget;
 use crate::Stand;
@@ -58,8 +58,8 @@ pub fn one_round(
     requires { ⌜ Listed (now bytes) (stand .shape) (now ceilings) ⌝ }
     requires { ⌜ OnWay (systemOf (viewOf (now bytes) (stand .shape) (now settings))) (now vector) ⌝ }
     requires { ⌜ stand .budget .made ≤ stand .budget .allowance ⌝ }
-    requires { ⌜ length (now bounds) ≡ 32 ⌝ }
-    ensures { λ r. ⌜ Rounded (stand .budget .allowance) (systemOf (viewOf (now (bytes .entry)) (stand .shape) (now (settings .entry)))) (progress (now (vector .entry)) (stand .budget .made)) (now (vector .exit)) (now (bounds .exit)) r ⌝ }
+    requires { ⌜ Marks (stand .shape .tasks) (now bounds) ⌝ }
+    ensures { λ r. ⌜ Rounded (stand .shape .tasks) (stand .budget .allowance) (systemOf (viewOf (now (bytes .entry)) (stand .shape) (now (settings .entry)))) (progress (now (vector .entry)) (stand .budget .made)) (now (vector .exit)) (now (bounds .exit)) r ⌝ }
 {
     let shape = stand.shape;
     let tasks = shape.tasks;
@@ -108,8 +108,8 @@ pub fn all_rounds(
 ) -> Round
     requires { ⌜ Listed (now bytes) (stand .shape) (now ceilings) ⌝ }
     requires { ⌜ progress (now vector) (stand .budget .made) ≡ begin (systemOf (viewOf (now bytes) (stand .shape) (now settings))) ⌝ }
-    requires { ⌜ length (now bounds) ≡ 32 ⌝ }
-    ensures { λ r. ⌜ Settled (stand .budget .allowance) (systemOf (viewOf (now (bytes .entry)) (stand .shape) (now (settings .entry)))) (now (vector .exit)) (now (bounds .exit)) r ⌝ }
+    requires { ⌜ Marks (stand .shape .tasks) (now bounds) ⌝ }
+    ensures { λ r. ⌜ Settled (stand .shape .tasks) (stand .budget .allowance) (systemOf (viewOf (now (bytes .entry)) (stand .shape) (now (settings .entry)))) (now (vector .exit)) (now (bounds .exit)) r ⌝ }
 {
     let shape = stand.shape;
     let allowance = stand.budget.allowance;

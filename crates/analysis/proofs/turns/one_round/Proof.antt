@@ -12,13 +12,13 @@ use Rattle.analysis.proofs.turns.one_round.Tie as tie
 
 abbrev Inv-loop : tie.InvT-loop
 Inv-loop bytes settings ceilings vector₀ bounds₀ shape tasks allowance made₀ changed₀ i₀ vector bounds made changed i =
-    (i ≤ tasks) × Standing (equationsOf bytes shape settings) (progress vector₀ made₀) allowance i (progress vector made) changed bounds
+    (i ≤ tasks) × Standing tasks (equationsOf bytes shape settings) (progress vector₀ made₀) allowance i (progress vector made) changed bounds
 
 abbrev μ-loop : tie.MeasureT-loop
 μ-loop bytes settings ceilings vector₀ bounds₀ shape tasks allowance made₀ changed₀ i₀ vector bounds made changed i = tasks - i
 
 loop-holds : tie.Need-loop-holds Inv-loop μ-loop
-loop-holds c = (omega arith, record { turned = turned-start (equationsOf (c .before .before .before .args .bytes .now) (c .before .before .before .args .stand .shape) (c .before .before .before .args .settings .now)) (progress (c .before .before .before .args .vector .now) (c .before .before .before .args .stand .budget .made)) (c .before .before .before .args .stand .budget .allowance) (c .before .before .before .pre .1 .1 .0) (c .before .before .before .pre .1 .0); sized = c .before .before .before .pre .1 .1 .1; marked = λ j l. absurd (omega arith) })
+loop-holds c = (omega arith, record { turned = turned-start (equationsOf (c .before .before .before .args .bytes .now) (c .before .before .before .args .stand .shape) (c .before .before .before .args .settings .now)) (progress (c .before .before .before .args .vector .now) (c .before .before .before .args .stand .budget .made)) (c .before .before .before .args .stand .budget .allowance) (c .before .before .before .pre .1 .1 .0) (c .before .before .before .pre .1 .0); marks = c .before .before .before .pre .1 .1 .1; marked = λ j l. absurd (omega arith) })
 
 asked-requires : tie.Need-asked-requires Inv-loop μ-loop
 asked-requires c κs = (c .before .before .before .before .before .pre .0 .well, (c .before .before .before .before .before .pre .0 .ceilings-are, c .loop-test .taken))

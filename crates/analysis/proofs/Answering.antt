@@ -1,0 +1,88 @@
+-- The answer of an accepted table's analysis, put together.
+use Prim.Native.Nat.{ℕ, _+_, _-_, _≤_, _<_}
+use mathlib.Core.Path.{_≡_, refl, sym, ap, subst, _∙_}
+use mathlib.Core.Bool.{Bool, true, false, cond}
+use mathlib.Core.List.{List, _++_}
+use native.Mathlib.Decide.{decLt}
+use native.Mathlib.Omega.{arith}
+use lib.Dec.{leb}
+use lib.ListN.{getD, length, drop, replicate, length-append, length-replicate, getD-replicate, List·getD-append, List·getD-eq-default, replicate-append-replicate}
+use lib.Seq.{ext-getD, getD-append-add, drop-at}
+use borrow.Author.Tests.{le-leb, lt-leb}
+use Rattle.table.specs.declared.Shape.{Shape}
+use Rattle.table.specs.declared.Reading.the-variants.{Accepted}
+use Rattle.table.specs.Indexed.{every}
+use Rattle.table.specs.WellFormed.{WellFormed}
+use Rattle.table.proofs.Indexed.{length-every, getD-every}
+use Rattle.rounds.specs.System.{System, size}
+use Rattle.rounds.specs.Rounds.{Progress, analysis, answer, begin}
+use Rattle.equations.specs.View.{ownSettings}
+use Rattle.analysis.specs.declared.Analysis.{Analysis}
+use Rattle.analysis.specs.declared.turns.Round.{Round}
+use Rattle.analysis.specs.Rounding.{deadlineOf, progress, bounded, Marks, Settled}
+use Rattle.analysis.specs.Analysing.{ownSystem, refusedBy, doneBy, analysedAs}
+use Rattle.analysis.proofs.Table.{equationsOf, table-size}
+
+-- the rounds begin at the deadlines
+pub begin-is : (s : List ℕ) (h : Shape) (settings v : List ℕ) (n made : ℕ) → v ≡ every (deadlineOf s) n 0 → n ≡ h .tasks → made ≡ 0
+    → progress v made ≡ begin (equationsOf s h settings)
+begin-is s h settings v n made e l z = rw (e, l, z)
+
+-- no task is marked yet
+pub marks-start : (n : ℕ) → Marks n (replicate 32 false)
+marks-start n = record { sized = refl; rest = λ j l. go j (decLt j 32) }
+  where
+    go : (j : ℕ) → Dec (j < 32) → getD (replicate 32 false) j false ≡ false
+    go j (yes p) = getD-replicate 32 j false false p
+    go j (no p) = List·getD-eq-default (replicate 32 false) false {n = j} (omega arith)
+
+-- what is left of an array of zeros
+pub zeros-left : (n : ℕ) → n ≤ 32 → drop {A = ℕ} n (replicate 32 0) ≡ replicate (32 - n) 0
+zeros-left n l =
+    let e : n + (32 - n) ≡ 32 = omega arith in
+    ap (λ (k : ℕ). drop {A = ℕ} n (replicate k 0)) (sym e)
+    ∙ ap (drop {A = ℕ} n) (sym (replicate-append-replicate {A = ℕ} n (32 - n) 0))
+    ∙ drop-at {A = ℕ} (replicate n 0) (replicate (32 - n) 0) n (length-replicate {A = ℕ} n 0)
+
+-- marks that are those of f for n tasks
+marks-are : (n : ℕ) (f : ℕ → Bool) (b : List Bool) → n ≤ 32 → Marks n b → ((i : ℕ) → i < n → getD b i false ≡ f i) → b ≡ every f n 0 ++ replicate (32 - n) false
+marks-are n f b l m h =
+    let size-is : length (every f n 0 ++ replicate (32 - n) false) ≡ 32 =
+    length-append (every f n 0) (replicate (32 - n) false) ∙ omega (arith, length-every f n 0, length-replicate {A = Bool} (32 - n) false) in
+    ext-getD false b (every f n 0 ++ replicate (32 - n) false) (m .sized ∙ sym size-is) (λ i p. go i (omega (arith, m .sized)) (decLt i n))
+  where
+    go : (i : ℕ) → i < 32 → Dec (i < n) → getD b i false ≡ getD (every f n 0 ++ replicate (32 - n) false) i false
+    go i p (yes q) =
+        let z : 0 + i ≡ i = omega arith in
+        h i q ∙ ap f (sym z) ∙ sym (getD-every f n 0 i false q)
+        ∙ sym (List·getD-append (every f n 0) (replicate (32 - n) false) false i (let e = length-every f n 0 in omega arith))
+    go i p (no q) =
+        let e = length-every f n 0 in
+        let at : i ≡ length (every f n 0) + (i - n) = omega arith in
+        m .rest i (omega arith) ∙ sym (getD-replicate (32 - n) (i - n) false false (omega arith))
+        ∙ sym (getD-append-add (every f n 0) (replicate (32 - n) false) (i - n) false)
+        ∙ ap (λ (k : ℕ). getD (every f n 0 ++ replicate (32 - n) false) k false) (sym at)
+
+module _ (s : List ℕ) (h : Shape) (w : WellFormed s h) (allowance : ℕ) (settings : List ℕ) (own : settings ≡ ownSettings s (h .tasks))
+    (v : List ℕ) (b : List Bool) (r : Round) (g : Settled (h .tasks) allowance (equationsOf s h settings) v b r) where
+  ours : Settled (h .tasks) allowance (ownSystem s h) v b r
+  ours = subst (λ (x : List ℕ). Settled (h .tasks) allowance (equationsOf s h x) v b r) own g
+
+  -- the total is above the allowance
+  pub spent-is : (a : Analysis) → a ≡ refusedBy (record { number = 8; place = 0 }) → r .spent ≡ true → a ≡ analysedAs (Accepted h) s allowance
+  unfolding analysedAs
+  spent-is a e f = rw (lt-leb (analysis (ownSystem s h) .evaluations) allowance (ours .beyond f)) e
+
+  -- it is within
+  pub done-is : (values : List ℕ) → values ≡ v ++ drop (h .tasks) (replicate 32 0) → r .spent ≡ false
+      → record { refusal = record { number = 0; place = 0 }; tasks = h .tasks; evaluations = r .evaluations; values = values; bounds = b } ≡ analysedAs (Accepted h) s allowance
+  unfolding analysedAs
+  done-is values e f =
+      let final = ours .within f in
+      let count : r .evaluations ≡ analysis (ownSystem s h) .evaluations = ap (λ (p : Progress). p .evaluations) (final .done) in
+      let vector : v ≡ analysis (ownSystem s h) .vector = ap (λ (p : Progress). p .vector) (final .done) in
+      let all : values ≡ analysis (ownSystem s h) .vector ++ replicate (32 - h .tasks) 0 =
+      e ∙ ap (λ (x : List ℕ). v ++ x) (zeros-left (h .tasks) (w .tasks-most)) ∙ ap (λ (x : List ℕ). x ++ replicate (32 - h .tasks) 0) vector in
+      let marks = marks-are (h .tasks) (λ i. bounded (answer (ownSystem s h) i)) b (w .tasks-most) (ours .marks)
+      (λ i l. final .bounds-are i (rw (table-size s h (ownSettings s (h .tasks)) w) l)) in
+      rw (le-leb (analysis (ownSystem s h) .evaluations) allowance (omega (arith, final .counted)), count, all, marks)

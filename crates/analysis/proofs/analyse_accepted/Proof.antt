@@ -1,0 +1,47 @@
+-- `analysis::analyse_accepted` meets its contract.
+use Prim.Native.Nat.{ℕ}
+use borrow.Author.Needs.{needs}
+use lib.ListN.{replicate}
+use lib.Seq.{length-take-le}
+use mathlib.Core.Path.{refl, sym}
+use native.Mathlib.Omega.{arith}
+use Rattle.analysis.proofs.Answering.{marks-start, spent-is, done-is}
+use Rattle.analysis.proofs.analyse_accepted.Statement.{statement}
+use Rattle.analysis.proofs.analyse_accepted.Tie as tie
+
+own-settings-requires : tie.Need-own-settings-requires
+own-settings-requires c κs = search needs
+
+ceilings-requires : tie.Need-ceilings-requires
+ceilings-requires c κs = search needs
+
+array-borrow-prefix-values : tie.Need-array-borrow-prefix-values
+array-borrow-prefix-values c = search needs
+
+slice-aggregate-settle : tie.Need-slice-aggregate-settle
+slice-aggregate-settle c = sym (length-take-le {A = ℕ} (c .before .before .before .before .before .before .args .shape .tasks) (replicate 32 0) (c .before .before .before .before .before .before .pre .tasks-most))
+
+settle-requires : tie.Need-settle-requires
+settle-requires c κs = (record { well = c .before .before .before .before .before .before .before .pre; bytes = λ j. omega (arith, c .before .before .before .before .before .before .shared-slice-known .given j); ceilings-are = c .before .before .before .before .ceilings .ensures }, ((length-take-le {A = ℕ} (c .before .before .before .before .before .before .before .args .shape .tasks) (replicate 32 0) (c .before .before .before .before .before .before .before .pre .tasks-most), refl), marks-start (c .before .before .before .before .before .before .before .args .shape .tasks)))
+
+refused-requires : tie.Need-refused-requires
+refused-requires c κs = search needs
+
+returns : tie.Need-returns
+returns c = spent-is (c .before .before .before .before .before .before .before .before .before .before .before .args .bytes .now) (c .before .before .before .before .before .before .before .before .before .before .before .args .shape) (c .before .before .before .before .before .before .before .before .before .before .before .pre) (c .before .before .before .before .before .before .before .before .before .before .before .args .allowance) (c .before .before .before .before .before .before .before .before .before .own-settings .result) (c .before .before .before .before .before .before .before .before .before .own-settings .ensures) (c .before .before .before .settle .last .1 .1 .1 .0) (c .before .before .before .settle .last .1 .1 .1 .1 .0) (c .before .before .before .settle .result) (c .before .before .before .settle .ensures) (c .refused .result) (c .refused .ensures) (c .before .if1 .taken)
+
+returns-2 : tie.Need-returns-2
+returns-2 c = done-is (c .before .before .before .before .before .before .before .before .before .before .args .bytes .now) (c .before .before .before .before .before .before .before .before .before .before .args .shape) (c .before .before .before .before .before .before .before .before .before .before .pre) (c .before .before .before .before .before .before .before .before .before .before .args .allowance) (c .before .before .before .before .before .before .before .before .own-settings .result) (c .before .before .before .before .before .before .before .before .own-settings .ensures) (c .before .before .settle .last .1 .1 .1 .0) (c .before .before .settle .last .1 .1 .1 .1 .0) (c .before .before .settle .result) (c .before .before .settle .ensures) _ refl (c .if1 .left)
+
+pub analyse-accepted-spec : {M : Type 1} → statement M
+analyse-accepted-spec =
+    tie.close
+    (tie.spec
+    own-settings-requires
+    ceilings-requires
+    array-borrow-prefix-values
+    slice-aggregate-settle
+    settle-requires
+    refused-requires
+    returns
+    returns-2)
