@@ -4,3 +4,4 @@ mod Settling
 mod Starting
 mod Answering
 pub mod Right
+mod Cases
