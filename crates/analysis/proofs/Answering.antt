@@ -1,11 +1,10 @@
 -- The answer of an accepted table's analysis, put together.
 use Prim.Native.Nat.{ℕ, _+_, _-_, _≤_, _<_}
 use mathlib.Core.Path.{_≡_, refl, sym, ap, subst, _∙_}
-use mathlib.Core.Bool.{Bool, true, false, cond}
+use mathlib.Core.Bool.{Bool, true, false}
 use mathlib.Core.List.{List, _++_}
 use native.Mathlib.Decide.{decLt}
 use native.Mathlib.Omega.{arith}
-use lib.Dec.{leb}
 use lib.ListN.{getD, length, drop, replicate, length-append, length-replicate, getD-replicate, List·getD-append, List·getD-eq-default, replicate-append-replicate}
 use lib.Seq.{ext-getD, getD-append-add, drop-at}
 use borrow.Author.Tests.{le-leb, lt-leb}
@@ -14,13 +13,12 @@ use Rattle.table.specs.declared.Reading.the-variants.{Accepted}
 use Rattle.table.specs.Indexed.{every}
 use Rattle.table.specs.WellFormed.{WellFormed}
 use Rattle.table.proofs.Indexed.{length-every, getD-every}
-use Rattle.rounds.specs.System.{System, size}
 use Rattle.rounds.specs.Rounds.{Progress, analysis, answer, begin}
 use Rattle.equations.specs.View.{ownSettings}
 use Rattle.analysis.specs.declared.Analysis.{Analysis}
 use Rattle.analysis.specs.declared.turns.Round.{Round}
 use Rattle.analysis.specs.Rounding.{deadlineOf, progress, bounded, Marks, Settled}
-use Rattle.analysis.specs.Analysing.{ownSystem, refusedBy, doneBy, analysedAs}
+use Rattle.analysis.specs.Analysing.{ownSystem, refusedBy, analysedAs}
 use Rattle.analysis.proofs.Table.{equationsOf, table-size}
 
 -- the rounds begin at the deadlines

@@ -1,11 +1,10 @@
 -- What the analysis of an accepted table is worth: its vector is the largest that agrees with itself, and each answer is right under it.
-use Prim.Native.Nat.{ℕ, _≤_, _<_}
+use Prim.Native.Nat.{ℕ, _<_}
 use mathlib.Core.Path.{_≡_}
 use mathlib.Core.List.{List}
 use Rattle.table.specs.declared.Shape.{Shape}
 use Rattle.table.specs.declared.Reading.the-variants.{Accepted}
 use Rattle.table.specs.Reading.{readTable}
-use Rattle.table.specs.WellFormed.{WellFormed}
 use Rattle.table.proofs.Accepted.{well-formed}
 use Rattle.rounds.specs.Answer.{Right, value}
 use Rattle.rounds.specs.System.{size, deadline, Final}
@@ -15,12 +14,13 @@ use Rattle.rounds.specs.Rounds.{analysis, answer}
 use Rattle.rounds.specs.Theorems.{analysis-final, answer-right, answer-value}
 use Rattle.equations.specs.View.{ownSettings}
 use Rattle.analysis.specs.Analysing.{ownSystem}
-use Rattle.analysis.proofs.Table.{table-lawful, table-size}
+use Rattle.equations.proofs.Accepted.{accepted-lawful}
+use Rattle.analysis.proofs.Table.{table-size}
 
 module _ (s : List ℕ) (h : Shape) (e : readTable s ≡ Accepted h) where
   -- the largest vector in which each value is the bound under it, or the deadline where there is none
   pub largest-vector : Final (ownSystem s h) (analysis (ownSystem s h) .vector)
-  largest-vector = analysis-final (ownSystem s h) (table-lawful s h (ownSettings s (h .tasks)) (well-formed s h e))
+  largest-vector = analysis-final (ownSystem s h) (accepted-lawful s h (ownSettings s (h .tasks)) e)
 
   -- no value is above its deadline
   pub within-deadlines : analysis (ownSystem s h) .vector ⊑ ownSystem s h .deadlines
@@ -32,8 +32,8 @@ module _ (s : List ℕ) (h : Shape) (e : readTable s ≡ Accepted h) where
 
     -- each bound is the least solution of its equation under that vector, and none says that no solution lies within the deadline
     pub each-right : Right (ownSystem s h .side i (analysis (ownSystem s h) .vector)) (deadline (ownSystem s h) i) (answer (ownSystem s h) i)
-    each-right = answer-right (ownSystem s h) (table-lawful s h (ownSettings s (h .tasks)) (well-formed s h e)) i placed
+    each-right = answer-right (ownSystem s h) (accepted-lawful s h (ownSettings s (h .tasks)) e) i placed
 
     -- and its value in the vector is the bound, or the deadline
     pub each-value : at (analysis (ownSystem s h) .vector) i ≡ value (deadline (ownSystem s h) i) (answer (ownSystem s h) i)
-    each-value = answer-value (ownSystem s h) (table-lawful s h (ownSettings s (h .tasks)) (well-formed s h e)) i placed
+    each-value = answer-value (ownSystem s h) (accepted-lawful s h (ownSettings s (h .tasks)) e) i placed

@@ -1,13 +1,12 @@
 -- One round of the rounds, as the code makes it.
 use Prim.Native.Nat.{ℕ, _≤_, _<_}
-use mathlib.Core.Path.{_≡_, refl, sym, ap, subst, _∙_}
+use mathlib.Core.Path.{_≡_, sym, ap, subst, _∙_}
 use mathlib.Core.Bool.{Bool, true, false}
 use mathlib.Core.List.{List}
 use native.Mathlib.Omega.{arith}
-use lib.ListN.{length}
 use Rattle.rounds.specs.System.{System, Lawful}
 use Rattle.rounds.specs.Vector.{sum}
-use Rattle.rounds.specs.Rounds.{Progress, round, changed, begin, analysis}
+use Rattle.rounds.specs.Rounds.{Progress, round, changed, begin}
 use Rattle.rounds.specs.RoundsLoop.{Going, going-start, going-over, going-next, going-less, going-end, going-answers}
 use Rattle.analysis.specs.declared.turns.Round.{Round}
 use Rattle.analysis.specs.Rounding.{progress, bounded, Rounded, Settled}

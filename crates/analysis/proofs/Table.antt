@@ -1,21 +1,20 @@
 -- A table's equations as the code meets them: deadlines, starts and right sides by place.
 use Prim.Native.Nat.{ℕ, _+_, _*_, _≤_, _<_}
-use mathlib.Core.Path.{_≡_, refl, sym, ap, _∙_}
+use mathlib.Core.Path.{_≡_, sym, ap, _∙_}
 use mathlib.Core.Bool.{true, false}
 use mathlib.Core.List.{List}
 use native.Mathlib.Omega.{arith}
-use lib.ListN.{getD, length}
 use Rattle.table.specs.declared.Shape.{Shape}
 use Rattle.table.specs.Fields.{wordAt}
 use Rattle.table.specs.WellFormed.{taskOf, WellFormed}
 use Rattle.table.proofs.Indexed.{length-every, getD-every}
-use Rattle.rounds.specs.System.{System, size, deadline, Lawful}
+use Rattle.rounds.specs.System.{System, size, deadline}
 use Rattle.rounds.specs.VectorLaws.{⊑-refl}
 use Rattle.equations.specs.declared.Query.{Query}
 use Rattle.equations.specs.View.{viewOf}
 use Rattle.equations.specs.Equations.{systemOf}
 use Rattle.equations.specs.Ready.{Asking}
-use Rattle.equations.proofs.Lawful.{lawful}
+use Rattle.equations.proofs.Accepted.{table-lawful}
 use Rattle.rounds.specs.Answer.{none}
 use Rattle.rounds.specs.Solver.{Reply}
 use Rattle.rounds.specs.SolverSteps.{solve-over}
@@ -29,9 +28,6 @@ abbrev pub equationsOf : List ℕ → Shape → List ℕ → System
 equationsOf s h settings = systemOf (viewOf s h settings)
 
 module _ (s : List ℕ) (h : Shape) (settings : List ℕ) (w : WellFormed s h) where
-  pub table-lawful : Lawful (equationsOf s h settings)
-  table-lawful = lawful (viewOf s h settings) (λ i l. w .task-range i l .run)
-
   pub table-size : size (equationsOf s h settings) ≡ h .tasks
   table-size = length-every (λ i. taskOf s i .deadline) (h .tasks) 0
 

@@ -1,7 +1,7 @@
 -- One turn of a round, as the code makes it.
-use Prim.Native.Nat.{ℕ, _+_, _*_, _≤_, _<_}
+use Prim.Native.Nat.{ℕ, _+_, _≤_, _<_}
 use mathlib.Core.Path.{_≡_, refl, sym, ap, subst, _∙_}
-use mathlib.Core.Bool.{Bool, true, false, cond, _||_}
+use mathlib.Core.Bool.{Bool, true, false, _||_}
 use mathlib.Core.List.{List}
 use native.Mathlib.Omega.{arith}
 use lib.ListN.{getD, length, set, length-set}
@@ -11,10 +11,10 @@ use borrow.Author.Tests.{lt-ltb, le-ltb}
 use Rattle.table.specs.declared.Shape.{Shape}
 use Rattle.table.specs.WellFormed.{taskOf, WellFormed}
 use Rattle.rounds.specs.Answer as theory
-use Rattle.rounds.specs.System.{System, size, deadline, Lawful}
+use Rattle.rounds.specs.System.{System, size}
 use Rattle.rounds.specs.OnWay.{OnWay, on-way-floor}
 use Rattle.equations.specs.declared.Query.{Query}
-use Rattle.equations.specs.Ready.{CeilingsAre, QueryIs}
+use Rattle.equations.specs.Ready.{QueryIs}
 use Rattle.analysis.specs.declared.Answer.{Answer}
 use Rattle.analysis.specs.declared.Answer.the-variants.{Bound, Nothing}
 use Rattle.analysis.specs.Solving.{answerOf, isBound, Solvable}
@@ -25,7 +25,8 @@ use Rattle.analysis.specs.declared.Reply.{Reply}
 use Rattle.analysis.specs.declared.turns.Round.{Round}
 use Rattle.analysis.specs.Rounding.{progress, Marks, Rounded}
 use Rattle.analysis.specs.Solving.{Solved}
-use Rattle.analysis.proofs.Table.{equationsOf, table-lawful, table-size, deadline-is}
+use Rattle.equations.proofs.Accepted.{table-lawful}
+use Rattle.analysis.proofs.Table.{equationsOf, table-size, deadline-is}
 
 -- a smaller bound replaces the value, and raises the flag
 pub lowers-yes : (v : List ℕ) (i t : ℕ) (a : Answer) (flag : Bool) → a ≡ Bound t → t < getD v i 0 → Lowers v i a flag (set v i t) true

@@ -1,19 +1,17 @@
 -- The right sides of a table rise with t and with the vector, and are nowhere below C + S: its equations are a lawful system.
-use Prim.Native.Nat.{ℕ, _+_, _-_, _*_, max, _≤_, _<_}
-use mathlib.Core.Path.{_≡_, refl, sym, ap, _∙_}
+use Prim.Native.Nat.{ℕ, _+_, _-_, _*_, _≤_, _<_}
 use mathlib.Core.Bool.{Bool, true, false, cond, _&&_}
 use mathlib.Core.List.{List}
 use native.Mathlib.Nat.{le-refl, mul-le-mul-left, mul-le-mul-right}
 use native.Mathlib.Omega.{arith}
 use lib.Dec.{ltb, leb}
-use Rattle.table.specs.Indexed.{sumTo}
 use Rattle.table.proofs.Indexed.{length-every}
 use Rattle.rounds.specs.Vector.{at, _⊑_}
-use Rattle.rounds.specs.System.{System, Lawful}
+use Rattle.rounds.specs.System.{Lawful}
 use Rattle.equations.specs.Counting.{ceil, maxTo}
-use Rattle.equations.specs.Bag.{largest, bagTo}
+use Rattle.equations.specs.Bag.{largest}
 use Rattle.equations.specs.View.{View}
-use Rattle.equations.specs.Equations.{Part, start, repeats, bag, extra, blocking, addition, additions, middle, reaches, sideWith, systemWith, systemOf}
+use Rattle.equations.specs.Equations.{Part, repeats, bag, blocking, addition, additions, middle, reaches, systemWith, systemOf}
 use Rattle.equations.proofs.Sums.{sumTo-mono}
 use Rattle.equations.proofs.Counting.{ceil-mono, maxTo-at}
 use Rattle.equations.proofs.Layers.{bag-mono}

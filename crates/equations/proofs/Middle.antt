@@ -1,8 +1,8 @@
 -- The uses of a task's middle set stand side by side, and those of lower tasks outside it after them.
 use Prim.Native.Nat.{ℕ, _+_, max, _≤_, _<_}
-use mathlib.Core.Path.{_≡_, refl, sym, ap, _∙_}
+use mathlib.Core.Path.{_≡_, refl, sym, ap}
 use mathlib.Core.Bool.{Bool, true, false, cond, _&&_}
-use mathlib.Core.List.{List, []}
+use mathlib.Core.List.{List}
 use native.Mathlib.Decide.{decLt}
 use native.Mathlib.Omega.{arith}
 use lib.Dec.{ltb, leb}
@@ -12,7 +12,7 @@ use Rattle.table.specs.declared.Shape.{Shape}
 use Rattle.table.specs.WellFormed.{taskOf, useOf, WellFormed}
 use Rattle.equations.specs.View.{viewOf}
 use Rattle.equations.specs.Equations.{ceiling, reaches, middle, outside, extra}
-use Rattle.equations.specs.Ready.{CeilingsAre, UsesFrom, reachingLength, Longest}
+use Rattle.equations.specs.Ready.{CeilingsAre, UsesFrom, Longest}
 
 -- no test counts behind one that fails
 and-false : (a b : Bool) → b ≡ false → a && b ≡ false

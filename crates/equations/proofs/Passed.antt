@@ -1,5 +1,5 @@
 -- One pass over the uses of the middle set: those before and after it leave the pick as it is.
-use Prim.Native.Nat.{ℕ, zero, suc, _+_, _-_, _*_, _≤_, _<_}
+use Prim.Native.Nat.{ℕ, zero, suc, _+_, _-_, _≤_, _<_}
 use mathlib.Core.Path.{_≡_, refl, sym, ap, _∙_}
 use mathlib.Core.Bool.{Bool, true, false, cond, _&&_}
 use mathlib.Core.List.{List}
@@ -14,7 +14,7 @@ use Rattle.equations.specs.declared.Query.{Query}
 use Rattle.equations.specs.declared.picks.Pick.{Pick}
 use Rattle.equations.specs.Picking.{merged, pickTo, lengthsOf, timesOf, listed, Picking}
 use Rattle.equations.proofs.Layers.{reach}
-use Rattle.equations.proofs.Picked.{Picked, picked, reach-most}
+use Rattle.equations.proofs.Picked.{picked, reach-most}
 use Rattle.equations.proofs.Timed.{times-most}
 
 -- a length that is not repeated leaves the pick

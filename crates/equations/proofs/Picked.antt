@@ -1,6 +1,6 @@
 -- Picking the lengths of a bag downwards: what a pick is, and what the sums of the picks are.
 use Prim.Native.Nat.{ℕ, zero, suc, _+_, _-_, _*_, min, _≤_, _<_}
-use mathlib.Core.Path.{_≡_, refl, sym, ap, _∙_}
+use mathlib.Core.Path.{_≡_, refl, ap, _∙_}
 use mathlib.Core.Bool.{Bool, true, false, cond, _&&_}
 use native.Mathlib.Nat.{le-refl, le-trans, mul-le-mul, add-mul, mul-add, mul-comm, mul-zero, min-zero}
 use native.Mathlib.Omega.{arith}
@@ -8,7 +8,7 @@ use lib.Dec.{leb, ltb}
 use borrow.Author.Tests.{le-leb, lt-leb, ltb-true, ltb-false, leb-true, leb-false}
 use Rattle.table.specs.Indexed.{sumTo}
 use Rattle.equations.specs.declared.picks.Pick.{Pick}
-use Rattle.equations.specs.Picking.{merged, pickTo}
+use Rattle.equations.specs.Picking.{pickTo}
 use Rattle.equations.proofs.Sums.{sumTo-mono, sumTo-flat, sumTo-alike, sumTo-most}
 use Rattle.equations.proofs.Layers.{reach}
 

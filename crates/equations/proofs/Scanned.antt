@@ -1,10 +1,10 @@
 -- Laws of the scans over a table's uses.
-use Prim.Native.Nat.{ℕ, zero, suc, _+_, _*_, max, _≤_, _<_}
-use mathlib.Core.Path.{_≡_, refl, sym, ap, subst, _∙_}
-use mathlib.Core.Bool.{Bool, true, false, cond}
+use Prim.Native.Nat.{ℕ, _+_, max, _≤_, _<_}
+use mathlib.Core.Path.{_≡_, refl, sym, ap, _∙_}
+use mathlib.Core.Bool.{cond}
 use mathlib.Core.List.{List}
 use native.Mathlib.Numerals.{add-one}
-use native.Mathlib.Decide.{ℕ-discrete, decLt}
+use native.Mathlib.Decide.{ℕ-discrete}
 use native.Mathlib.Omega.{arith}
 use lib.Dec.{eqb}
 use lib.ListN.{getD, length, set}
@@ -14,7 +14,6 @@ use Rattle.table.specs.declared.Shape.{Shape}
 use Rattle.table.specs.WellFormed.{taskOf, useOf, userOf, WellFormed}
 use Rattle.table.proofs.Laws.{place-has}
 use Rattle.equations.specs.Counting.{maxTo}
-use Rattle.equations.specs.View.{viewOf}
 use Rattle.equations.specs.Ready.{UsesFrom, reachingLength, Longest}
 use Rattle.equations.proofs.Counting.{max-more}
 

@@ -5,18 +5,16 @@ use mathlib.Core.Bool.{Bool, true, false, cond, _&&_}
 use mathlib.Core.List.{List, _++_}
 use native.Mathlib.Decide.{decLt, decLe}
 use native.Mathlib.Omega.{arith}
-use lib.Dec.{leb, ltb}
+use lib.Dec.{leb}
 use lib.ListN.{getD, replicate}
 use borrow.Author.Tests.{le-leb, lt-leb, lt-ltb, le-ltb}
-use Rattle.table.specs.declared.Shape.{Shape}
 use Rattle.table.specs.Fields.{wordAt}
 use Rattle.table.specs.WellFormed.{taskOf, useOf}
 use Rattle.equations.specs.declared.Query.{Query}
 use Rattle.equations.specs.declared.picks.Sums.{Sums}
-use Rattle.equations.specs.Counting.{maxTo}
 use Rattle.equations.specs.Bag.{bagTo, largest}
 use Rattle.equations.specs.View.{viewOf}
-use Rattle.equations.specs.Equations.{repeats, bag, reaches, outside, middle, extra, blocking, additions, rightSide}
+use Rattle.equations.specs.Equations.{repeats, bag, reaches, outside, extra, blocking, additions, rightSide}
 use Rattle.equations.specs.Picking.{lengthsOf, listed, timesOf, sumsOf, Picking}
 use Rattle.equations.specs.Ready.{Asking}
 use Rattle.equations.proofs.Counting.{maxTo-most}

@@ -1,6 +1,6 @@
 -- The two sums from pick to pick: all lengths from one on are taken, as far as x and x + 1 go. Each pick takes one at least.
-use Prim.Native.Nat.{ℕ, suc, _+_, _-_, _*_, min, _≤_, _<_}
-use mathlib.Core.Path.{_≡_, refl, sym, ap, ap₂, _∙_}
+use Prim.Native.Nat.{ℕ, _+_, _-_, _*_, min, _≤_, _<_}
+use mathlib.Core.Path.{_≡_, sym, ap, ap₂, _∙_}
 use native.Mathlib.Omega.{arith}
 use Rattle.equations.specs.declared.picks.Pick.{Pick}
 use Rattle.equations.specs.declared.picks.Tally.{Tally}

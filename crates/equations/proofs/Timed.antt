@@ -1,12 +1,11 @@
 -- How often a use is in the bag: the task it is of, and that the number is small.
 use Prim.Native.Nat.{ℕ, _+_, _-_, _*_, _≤_, _<_}
-use mathlib.Core.Path.{_≡_, refl, sym, ap, _∙_}
+use mathlib.Core.Path.{_≡_, refl, ap, _∙_}
 use mathlib.Core.List.{List}
 use native.Mathlib.Omega.{arith}
-use lib.ListN.{getD, length}
-use Rattle.table.specs.declared.Shape.{Shape}
+use lib.ListN.{getD}
 use Rattle.table.specs.Rules.{placeFrom}
-use Rattle.table.specs.WellFormed.{taskOf, useOf, userOf, WellFormed}
+use Rattle.table.specs.WellFormed.{taskOf, useOf, userOf}
 use Rattle.equations.specs.declared.Query.{Query}
 use Rattle.equations.specs.Counting.{ceil}
 use Rattle.equations.specs.Picking.{timesOf, Picking}

@@ -1,7 +1,7 @@
 -- How the code finds Σ(X) and Σ(X + 1): it picks the lengths in the bag one after the other, downwards. For private functions: no promise to a caller.
 use Prim.Native.Nat.{ℕ, zero, suc, _+_, _-_, _*_, min, _≤_, _<_}
 use mathlib.Core.Path.{_≡_}
-use mathlib.Core.Bool.{Bool, cond, _&&_}
+use mathlib.Core.Bool.{cond, _&&_}
 use mathlib.Core.List.{List}
 use lib.Dec.{ltb, leb}
 use lib.ListN.{getD, length}

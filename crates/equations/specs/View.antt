@@ -1,5 +1,5 @@
 -- A table as the equations see it: its tasks and its uses by place, the place of the task that each use is of, and a system setting for each task.
-use Prim.Native.Nat.{ℕ, _<_}
+use Prim.Native.Nat.{ℕ}
 use mathlib.Core.Bool.{cond}
 use mathlib.Core.List.{List}
 use lib.Dec.{ltb}

@@ -11,7 +11,7 @@ use Rattle.table.specs.declared.Task.{Task}
 use Rattle.table.specs.declared.Use.{Use}
 use Rattle.table.specs.Fields.{wordAt, taskAt, useAt, noTask, noUse}
 use Rattle.table.proofs.Laid.{Laid}
-use Rattle.held.specs.Writing.{wordBytes, taskBytes, useBytes, all}
+use Rattle.held.specs.Writing.{taskBytes, useBytes, all}
 use Rattle.held.specs.Trips.{TaskSized}
 
 -- ---- a record at the front of the bytes

@@ -1,6 +1,6 @@
 -- What loading answers, by what the bytes are read as.
-use Prim.Native.Nat.{ℕ, _*_, _≤_}
-use mathlib.Core.Path.{_≡_, refl, sym, ap, _∙_}
+use Prim.Native.Nat.{ℕ, _≤_}
+use mathlib.Core.Path.{_≡_, ap}
 use mathlib.Core.List.{List}
 use native.Mathlib.Omega.{arith}
 use Rattle.table.specs.declared.Shape.{Shape}
@@ -9,9 +9,7 @@ use Rattle.table.specs.declared.Reading.{Reading}
 use Rattle.table.specs.declared.Reading.the-variants.{Accepted, Refused}
 use Rattle.table.specs.Reading.{readTable}
 use Rattle.table.proofs.Accepted.{well-formed}
-use Rattle.held.specs.declared.Table.{Table}
-use Rattle.held.specs.declared.Loaded.{Loaded}
-use Rattle.held.specs.Loading.{filledBy, heldBy, loadTable}
+use Rattle.held.specs.Loading.{filledBy, heldBy}
 
 -- the counts and the start of an accepted table's uses fit a held table
 pub counts-fit : (s : List ℕ) (h : Shape) → readTable s ≡ Accepted h → (h .tasks ≤ 32) × (h .«uses_at» ≤ 640) × (h .uses ≤ 512)

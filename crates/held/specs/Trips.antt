@@ -1,7 +1,7 @@
 -- What the round trips speak of: a table that a program can hold, and a table with the entries past its counts 0.
 use Prim.Native.Nat.{ℕ, _-_, _^_, _<_}
 use mathlib.Core.Path.{_≡_}
-use mathlib.Core.List.{List, _++_}
+use mathlib.Core.List.{_++_}
 use lib.ListN.{length, getD, take, replicate}
 use Rattle.table.specs.declared.Task.{Task}
 use Rattle.table.specs.Fields.{noTask, noUse}

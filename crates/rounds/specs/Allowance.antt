@@ -1,7 +1,6 @@
 -- The caller's allowance of evaluations: the analysis is refused exactly when its total is larger.
-use mathlib.Core.Path.{_≡_}
 use mathlib.Core.Bool.{cond}
-use Prim.Native.Nat.{ℕ, _≤_, _<_}
+use Prim.Native.Nat.{ℕ}
 use lib.Dec.{leb}
 use Rattle.rounds.specs.Rounds.{Progress, analysis}
 use Rattle.rounds.specs.System.{System}
@@ -14,9 +13,3 @@ pub data Allowed : Type 0 where
 -- The total of the whole analysis decides.
 unfoldable pub allowed : System → ℕ → Allowed
 allowed S allowance = cond (leb (analysis S .evaluations) allowance) (within (analysis S)) beyond
-
--- A part of the analysis, counted as it goes, where the definition counts `whole`: within the allowance the same and P, beyond it a count beyond.
-pub record Counted (allowance whole count : ℕ) (P : Type 0) : Type 0 where
-  pub exact : whole ≤ allowance → count ≡ whole
-  pub holds : whole ≤ allowance → P
-  pub beyond : allowance < whole → allowance < count

@@ -5,11 +5,9 @@ use Prim.Native.Nat.{ℕ, _≤_, _<_}
 use native.Mathlib.Decide.{decLe}
 use native.Mathlib.Omega.{arith}
 use borrow.Author.Tests.{le-leb, lt-leb}
-use Rattle.rounds.specs.Allowance.{within, beyond, allowed, Counted}
+use Rattle.rounds.specs.Allowance.{within, beyond, allowed}
 use Rattle.rounds.specs.Rounds.{Progress, analysis}
 use Rattle.rounds.specs.System.{System}
-
--- ---- the whole analysis
 
 module _ (S : System) (allowance : ℕ) where
   -- A total within the allowance is answered by the analysis.
@@ -49,31 +47,3 @@ pub allowed-larger : (S : System) (a b : ℕ) (s : Progress) → a ≤ b → all
 allowed-larger S a b s h q =
     let r = allowed-within S a s q in
     rw (r .0) (within-allowed S b (omega arith))
-
--- ---- a part that counts as it goes
-
--- The definition's own count and result are counted right.
-pub counted-exact : (allowance whole count : ℕ) {P : Type 0} → count ≡ whole → P → Counted allowance whole count P
-counted-exact allowance whole count e p = record { exact = λ h. e; holds = λ h. p; beyond = λ h. omega arith }
-
--- So is any count above the allowance where the definition's is above it.
-pub counted-over : (allowance whole count : ℕ) {P : Type 0} → allowance < whole → allowance < count → Counted allowance whole count P
-counted-over allowance whole count l m =
-    record { exact = λ h. absurd (omega arith); holds = λ h. absurd (omega arith); beyond = λ h. m }
-
-module _ (allowance whole count : ℕ) {P : Type 0} (c : Counted allowance whole count P) where
-  -- A count within the allowance is the definition's, and the result is too.
-  pub counted-within : count ≤ allowance → (whole ≤ allowance) × P
-  counted-within l = go (decLe whole allowance)
-    where
-      go : Dec (whole ≤ allowance) → (whole ≤ allowance) × P
-      go (yes p) = (p, c .holds p)
-      go (no p) = absurd (omega (arith, c .beyond (omega arith)))
-
-  -- A count above the allowance says that the definition's is above it.
-  pub counted-beyond : allowance < count → allowance < whole
-  counted-beyond l = go (decLe whole allowance)
-    where
-      go : Dec (whole ≤ allowance) → allowance < whole
-      go (yes p) = absurd (omega (arith, c .exact p))
-      go (no p) = omega arith

@@ -2,11 +2,11 @@
 use mathlib.Core.Path.{_≡_, refl, ap}
 use mathlib.Core.Bool.{Bool, true, false, cond, not, _||_}
 use mathlib.Core.List.{List}
-use Prim.Native.Nat.{ℕ, _≤_, _<_}
+use Prim.Native.Nat.{ℕ, _<_}
 use native.Mathlib.Omega.{arith}
 use lib.ListN.{length, set, length-set}
 use lib.Seq.{getD-set-same}
-use borrow.Author.Tests.{ltb-true, lt-ltb, le-ltb}
+use borrow.Author.Tests.{ltb-true}
 use Rattle.rounds.specs.Answer.{Answer, bound, none}
 use Rattle.rounds.specs.Rounds.{lowers, lowered}
 use Rattle.rounds.specs.Vector.{at, _⊑_, same}
@@ -29,14 +29,6 @@ lowered-below v i (bound t) = go (lowers v i (bound t)) refl
     go : (b : Bool) → lowers v i (bound t) ≡ b → cond b (set v i t) v ⊑ v
     go true e = set-below v i t (omega (arith, ltb-true))
     go false e = ⊑-refl v
-
--- A smaller bound replaces the value.
-pub lowered-less : (v : List ℕ) (i t : ℕ) → t < at v i → lowered v i (bound t) ≡ set v i t
-lowered-less v i t h = rw (lt-ltb t (at v i) h)
-
--- A bound that is not smaller leaves the vector.
-pub lowered-not : (v : List ℕ) (i t : ℕ) → at v i ≤ t → lowered v i (bound t) ≡ v
-lowered-not v i t h = rw (le-ltb t (at v i) h)
 
 -- A flag raised wherever a value is lowered tells, at every turn of a round from u, whether the vector is no longer u.
 pub lowers-flag : (u v : List ℕ) (i : ℕ) (a : Answer) (flag : Bool) → v ⊑ u

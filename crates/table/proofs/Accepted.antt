@@ -1,18 +1,15 @@
 -- An accepted table is well formed: what the walk has seen of it, from the reader's definition alone.
-use Prim.Native.Nat.{ℕ, zero, suc, _+_, _*_, _-_, _≤_, _<_}
+use Prim.Native.Nat.{ℕ, _+_, _*_, _-_, _≤_, _<_}
 use mathlib.Core.Path.{_≡_, refl, sym, ap, subst, _∙_}
-use mathlib.Core.Bool.{Bool, true, false, cond}
+use mathlib.Core.Bool.{Bool, cond}
 use mathlib.Core.List.{List}
 use lib.Dec.{eqb}
 use lib.ListN.{getD, length}
-use native.Mathlib.Numerals.{add-one}
 use native.Mathlib.Omega.{arith}
 use native.Mathlib.Decide.{ℕ-discrete}
-use borrow.Author.Count.{below-none, below-more}
+use borrow.Author.Count.{below-more}
 use borrow.Author.Tests.{eq-eqb, ne-eqb}
 use Rattle.table.specs.declared.Shape.{Shape}
-use Rattle.table.specs.declared.Task.{Task}
-use Rattle.table.specs.declared.Use.{Use}
 use Rattle.table.specs.declared.walk.Walk.{Walk}
 use Rattle.table.specs.declared.Reading.the-variants.{Accepted}
 use Rattle.table.specs.Fields.{taskAt, useAt, wordAt}
@@ -22,8 +19,8 @@ use Rattle.table.specs.Indexed.{sumTo}
 use Rattle.table.specs.WellFormed.{taskOf, useOf, userOf, sectionsBy, TaskInRange, UseInRange, WellFormed}
 use Rattle.table.proofs.Indexed.{no-sum, sum-more}
 use Rattle.table.proofs.Laws.{place-within, place-has, place-first}
-use Rattle.table.proofs.Told.{TaskStands, task-stands, UseStands, use-stands}
-use Rattle.table.proofs.Walked.{Ended, accepted}
+use Rattle.table.proofs.Told.{task-stands, UseStands, use-stands}
+use Rattle.table.proofs.Walked.{accepted}
 
 -- what the walk has seen; the uses start at 20 * w .tasks once there is one
 pub record Seen (s : List ℕ) (w : Walk) : Type 0 where

@@ -19,7 +19,6 @@ use Rattle.table.specs.Fields.{taskAt, useAt, wordAt}
 use Rattle.table.specs.Ranges.{taskFits, useFits}
 use Rattle.table.specs.Rules.{taskRule, useRule, sumAfter, withTask, withUse}
 use Rattle.table.specs.Reading.{startWalk, taskStep, useStep, endStep, stepAt, userAt, onward, readFrom, readTable}
-use Rattle.table.specs.Indexed.{sumTo}
 use Rattle.table.specs.WellFormed.{taskOf, useOf, userOf, sectionsBy, TaskInRange, UseInRange, WellFormed}
 use Rattle.table.proofs.Indexed.{sum-grows}
 use Rattle.table.proofs.Laws.{place-has, place-first}

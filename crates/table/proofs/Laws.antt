@@ -10,8 +10,6 @@ use native.Mathlib.Nat.{mul-le-mul}
 use native.Mathlib.Decide.{ℕ-discrete}
 use borrow.Author.Tests.{eq-eqb, ne-eqb, eqb-true}
 use Rattle.table.specs.declared.Reading.{Reading}
-use Rattle.table.specs.declared.Task.{Task}
-use Rattle.table.specs.declared.Use.{Use}
 use Rattle.table.specs.declared.walk.Walk.{Walk}
 use Rattle.table.specs.declared.walk.Turn.{Turn}
 use Rattle.table.specs.declared.walk.Turn.the-variants.{Next, Last}

@@ -4,7 +4,8 @@ use mathlib.Core.Path.{_≡_, refl, _∙_}
 use Rattle.rounds.specs.Vector.{sum}
 use Rattle.rounds.specs.RoundsLoop.{Going}
 use Rattle.analysis.specs.Rounding.{progress, Marks}
-use Rattle.analysis.proofs.Table.{equationsOf, table-lawful}
+use Rattle.equations.proofs.Accepted.{table-lawful}
+use Rattle.analysis.proofs.Table.{equationsOf}
 use Rattle.analysis.proofs.Settling.{begins, spent-here, round-on, last-round}
 use Rattle.analysis.proofs.turns.all_rounds.Statement.{statement}
 use Rattle.analysis.proofs.turns.all_rounds.Tie as tie
