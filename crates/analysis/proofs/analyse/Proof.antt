@@ -23,11 +23,17 @@ refused-requires : tie.Need-refused-requires
 refused-requires c κs = search needs
 
 returns : tie.Need-returns
-returns c = c .analyse-accepted .ensures ∙ ap (λ (r : Reading). analysedAs r (c .before .before .before .before .before .before .args .bytes .now) (c .before .before .before .before .before .before .args .allowance)) (sym (sym (c .before .before .before .before .read .ensures) ∙ c .before .before .shape .given .1))
+returns c =
+    let entry = c .before .before .before .before .before .before in
+    c .analyse-accepted .ensures ∙ ap (λ (r : Reading). analysedAs r (entry .args .bytes .now) (entry .args .allowance)) (sym (sym
+    (c .before .before .before .before .read .ensures) ∙ c .before .before .shape .given .1))
 
 returns-2 : tie.Need-returns-2
 unfolding analysedAs
-returns-2 c = c .refused .ensures ∙ ap (λ (r : Reading). analysedAs r (c .before .before .before .before .before .before .args .bytes .now) (c .before .before .before .before .before .before .args .allowance)) (sym (sym (c .before .before .before .before .read .ensures) ∙ c .before .before .refusal .given .1))
+returns-2 c =
+    let entry = c .before .before .before .before .before .before in
+    c .refused .ensures ∙ ap (λ (r : Reading). analysedAs r (entry .args .bytes .now) (entry .args .allowance)) (sym (sym
+    (c .before .before .before .before .read .ensures) ∙ c .before .before .refusal .given .1))
 
 pub analyse-spec : {M : Type 1} → statement M
 analyse-spec =

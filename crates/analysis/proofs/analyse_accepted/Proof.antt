@@ -22,16 +22,43 @@ slice-aggregate-settle : tie.Need-slice-aggregate-settle
 slice-aggregate-settle c = sym (length-take-le {A = ℕ} (c .before .before .before .before .before .before .args .shape .tasks) (replicate 32 0) (c .before .before .before .before .before .before .pre .tasks-most))
 
 settle-requires : tie.Need-settle-requires
-settle-requires c κs = (record { well = c .before .before .before .before .before .before .before .pre; bytes = λ j. omega (arith, c .before .before .before .before .before .before .shared-slice-known .given j); ceilings-are = c .before .before .before .before .ceilings .ensures }, ((length-take-le {A = ℕ} (c .before .before .before .before .before .before .before .args .shape .tasks) (replicate 32 0) (c .before .before .before .before .before .before .before .pre .tasks-most), refl), marks-start (c .before .before .before .before .before .before .before .args .shape .tasks)))
+settle-requires c κs =
+    let entry = c .before .before .before .before .before .before .before in (
+      record {
+        well = entry .pre;
+        bytes = λ j. omega (arith, c .before .before .before .before .before .before .shared-slice-known .given j);
+        ceilings-are = c .before .before .before .before .ceilings .ensures;
+      },
+      (
+        (
+          length-take-le {A = ℕ} (entry .args .shape .tasks) (replicate 32 0)
+              (entry .pre .tasks-most),
+          refl,
+        ),
+        marks-start (entry .args .shape .tasks),
+      ),
+    )
 
 refused-requires : tie.Need-refused-requires
 refused-requires c κs = search needs
 
 returns : tie.Need-returns
-returns c = spent-is (c .before .before .before .before .before .before .before .before .before .before .before .args .bytes .now) (c .before .before .before .before .before .before .before .before .before .before .before .args .shape) (c .before .before .before .before .before .before .before .before .before .before .before .pre) (c .before .before .before .before .before .before .before .before .before .before .before .args .allowance) (c .before .before .before .before .before .before .before .before .before .own-settings .result) (c .before .before .before .before .before .before .before .before .before .own-settings .ensures) (c .before .before .before .settle .last .1 .1 .1 .0) (c .before .before .before .settle .last .1 .1 .1 .1 .0) (c .before .before .before .settle .result) (c .before .before .before .settle .ensures) (c .refused .result) (c .refused .ensures) (c .before .if1 .taken)
+returns c =
+    let entry = c .before .before .before .before .before .before .before .before .before .before .before in
+    let at-own-settings = c .before .before .before .before .before .before .before .before .before in
+    let at-settle = c .before .before .before in
+    spent-is (entry .args .bytes .now) (entry .args .shape) (entry .pre) (entry .args .allowance) (at-own-settings .own-settings .result)
+    (at-own-settings .own-settings .ensures) (at-settle .settle .last .1 .1 .1 .0) (at-settle .settle .last .1 .1 .1 .1 .0)
+    (at-settle .settle .result) (at-settle .settle .ensures) (c .refused .result) (c .refused .ensures) (c .before .if1 .taken)
 
 returns-2 : tie.Need-returns-2
-returns-2 c = done-is (c .before .before .before .before .before .before .before .before .before .before .args .bytes .now) (c .before .before .before .before .before .before .before .before .before .before .args .shape) (c .before .before .before .before .before .before .before .before .before .before .pre) (c .before .before .before .before .before .before .before .before .before .before .args .allowance) (c .before .before .before .before .before .before .before .before .own-settings .result) (c .before .before .before .before .before .before .before .before .own-settings .ensures) (c .before .before .settle .last .1 .1 .1 .0) (c .before .before .settle .last .1 .1 .1 .1 .0) (c .before .before .settle .result) (c .before .before .settle .ensures) _ refl (c .if1 .left)
+returns-2 c =
+    let entry = c .before .before .before .before .before .before .before .before .before .before in
+    let at-own-settings = c .before .before .before .before .before .before .before .before in
+    let at-settle = c .before .before in
+    done-is (entry .args .bytes .now) (entry .args .shape) (entry .pre) (entry .args .allowance) (at-own-settings .own-settings .result)
+    (at-own-settings .own-settings .ensures) (at-settle .settle .last .1 .1 .1 .0) (at-settle .settle .last .1 .1 .1 .1 .0)
+    (at-settle .settle .result) (at-settle .settle .ensures) _ refl (c .if1 .left)
 
 pub analyse-accepted-spec : {M : Type 1} → statement M
 analyse-accepted-spec =

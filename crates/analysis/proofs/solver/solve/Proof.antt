@@ -49,31 +49,102 @@ add-t : tie.Need-add-t Inv-loop μ-loop
 add-t c = search needs
 
 returns : tie.Need-returns Inv-loop μ-loop
-returns c = replied (reply (equationsOf (c .before .before .before .before .before .before .before .args .bytes .now) (c .before .before .before .before .before .before .before .args .query .shape) (c .before .before .before .before .before .before .before .args .settings .now)) (c .before .before .before .before .before .before .before .args .query .task) (c .before .before .before .before .before .before .before .args .vector .now) (c .before .before .before .before .before .before .before .args .budget .made)) Nothing (c .before .before .before .before .before .before .before .args .budget .made) (c .before .before .before .before .before .before .before .args .budget .allowance) (too-long (c .before .before .before .before .before .before .before .args .bytes .now) (c .before .before .before .before .before .before .before .args .settings .now) (c .before .before .before .before .before .before .before .args .ceilings .now) (c .before .before .before .before .before .before .before .args .vector .now) (c .before .before .before .before .before .before .before .args .query) (c .before .before .before .before .before .before .before .pre .0) (c .before .before .before .word-at .result) (c .before .before .word-at2 .result) (c .before .word-at3 .result) (c .before .before .before .before .before .before .before .args .budget .made) (c .before .before .before .word-at .ensures) (c .before .before .word-at2 .ensures) (c .before .word-at3 .ensures) (c .if1 .taken)) (c .before .before .before .before .before .before .before .pre .1)
+returns c =
+    let entry = c .before .before .before .before .before .before .before in
+    let at-word-at = c .before .before .before in
+    let at-word-at2 = c .before .before in
+    replied (reply (equationsOf (entry .args .bytes .now) (entry .args .query .shape) (entry .args .settings .now)) (entry .args .query .task)
+    (entry .args .vector .now) (entry .args .budget .made)) Nothing (entry .args .budget .made) (entry .args .budget .allowance) (too-long
+    (entry .args .bytes .now) (entry .args .settings .now) (entry .args .ceilings .now) (entry .args .vector .now) (entry .args .query)
+    (entry .pre .0) (at-word-at .word-at .result) (at-word-at2 .word-at2 .result) (c .before .word-at3 .result) (entry .args .budget .made)
+    (at-word-at .word-at .ensures) (at-word-at2 .word-at2 .ensures) (c .before .word-at3 .ensures) (c .if1 .taken)) (entry .pre .1)
 
 loop-holds : tie.Need-loop-holds Inv-loop μ-loop
-loop-holds c = begins (c .before .before .before .before .before .before .before .args .bytes .now) (c .before .before .before .before .before .before .before .args .settings .now) (c .before .before .before .before .before .before .before .args .ceilings .now) (c .before .before .before .before .before .before .before .args .vector .now) (c .before .before .before .before .before .before .before .args .query) (c .before .before .before .before .before .before .before .pre .0) (c .before .before .before .word-at .result) (c .before .before .word-at2 .result) (c .before .word-at3 .result) (c .before .before .before .before .before .before .before .args .budget .made) (c .before .before .before .before .before .before .before .args .budget .allowance) (c .before .before .before .word-at .ensures) (c .before .before .word-at2 .ensures) (c .before .word-at3 .ensures) (c .if1 .left) (c .before .before .before .before .before .before .before .pre .1)
+loop-holds c =
+    let entry = c .before .before .before .before .before .before .before in
+    let at-word-at = c .before .before .before in
+    let at-word-at2 = c .before .before in
+    begins (entry .args .bytes .now) (entry .args .settings .now) (entry .args .ceilings .now) (entry .args .vector .now) (entry .args .query)
+    (entry .pre .0) (at-word-at .word-at .result) (at-word-at2 .word-at2 .result) (c .before .word-at3 .result) (entry .args .budget .made)
+    (entry .args .budget .allowance) (at-word-at .word-at .ensures) (at-word-at2 .word-at2 .ensures) (c .before .word-at3 .ensures) (c .if1 .left)
+    (entry .pre .1)
 
 returns-2 : tie.Need-returns-2 Inv-loop μ-loop
-returns-2 c = refused (reply (equationsOf (c .before .before .before .before .before .before .before .before .before .args .bytes .now) (c .before .before .before .before .before .before .before .before .before .args .query .shape) (c .before .before .before .before .before .before .before .before .before .args .settings .now)) (c .before .before .before .before .before .before .before .before .before .args .query .task) (c .before .before .before .before .before .before .before .before .before .args .vector .now) (c .before .before .before .before .before .before .before .before .before .args .budget .made)) Nothing (c .before .loop .made) (c .before .before .before .before .before .before .before .before .before .args .budget .allowance) (climbing-spent (equationsOf (c .before .before .before .before .before .before .before .before .before .args .bytes .now) (c .before .before .before .before .before .before .before .before .before .args .query .shape) (c .before .before .before .before .before .before .before .before .before .args .settings .now) .side (c .before .before .before .before .before .before .before .before .before .args .query .task) (c .before .before .before .before .before .before .before .before .before .args .vector .now)) (c .before .before .before .before .before .word-at .result) (c .before .before .before .before .before .before .before .before .before .args .budget .allowance) (reply (equationsOf (c .before .before .before .before .before .before .before .before .before .args .bytes .now) (c .before .before .before .before .before .before .before .before .before .args .query .shape) (c .before .before .before .before .before .before .before .before .before .args .settings .now)) (c .before .before .before .before .before .before .before .before .before .args .query .task) (c .before .before .before .before .before .before .before .before .before .args .vector .now) (c .before .before .before .before .before .before .before .before .before .args .budget .made)) (c .before .loop .t) (c .before .loop .made) (c .before .loop .inv) (c .if2 .taken))
+returns-2 c =
+    let entry = c .before .before .before .before .before .before .before .before .before in
+    refused (reply (equationsOf (entry .args .bytes .now) (entry .args .query .shape) (entry .args .settings .now)) (entry .args .query .task)
+    (entry .args .vector .now) (entry .args .budget .made)) Nothing (c .before .loop .made) (entry .args .budget .allowance) (climbing-spent
+    (equationsOf (entry .args .bytes .now) (entry .args .query .shape) (entry .args .settings .now) .side (entry .args .query .task)
+    (entry .args .vector .now)) (c .before .before .before .before .before .word-at .result) (entry .args .budget .allowance) (reply (equationsOf
+    (entry .args .bytes .now) (entry .args .query .shape) (entry .args .settings .now)) (entry .args .query .task) (entry .args .vector .now)
+    (entry .args .budget .made)) (c .before .loop .t) (c .before .loop .made) (c .before .loop .inv) (c .if2 .taken))
 
 right-side-requires : tie.Need-right-side-requires Inv-loop μ-loop
-right-side-requires c κs = asking (c .before .before .before .before .before .before .before .before .before .args .bytes .now) (c .before .before .before .before .before .before .before .before .before .args .settings .now) (c .before .before .before .before .before .before .before .before .before .args .ceilings .now) (c .before .before .before .before .before .before .before .before .before .args .vector .now) (c .before .before .before .before .before .before .before .before .before .args .query) (c .before .before .before .before .before .before .before .before .before .pre .0) (c .before .loop .t) (omega (arith, c .before .loop .inv .within, deadline-most (c .before .before .before .before .before .before .before .before .before .args .bytes .now) (c .before .before .before .before .before .before .before .before .before .args .settings .now) (c .before .before .before .before .before .before .before .before .before .args .ceilings .now) (c .before .before .before .before .before .before .before .before .before .args .vector .now) (c .before .before .before .before .before .before .before .before .before .args .query) (c .before .before .before .before .before .before .before .before .before .pre .0) (c .before .before .before .before .before .word-at .result) (c .before .before .before .before .before .word-at .ensures)))
+right-side-requires c κs =
+    let entry = c .before .before .before .before .before .before .before .before .before in
+    let at-word-at = c .before .before .before .before .before in
+    asking (entry .args .bytes .now) (entry .args .settings .now) (entry .args .ceilings .now) (entry .args .vector .now) (entry .args .query)
+    (entry .pre .0) (c .before .loop .t) (omega (
+      arith,
+      c .before .loop .inv .within,
+      deadline-most (entry .args .bytes .now)
+          (entry .args .settings .now) (entry .args .ceilings .now) (entry .args .vector .now) (entry .args .query) (entry .pre .0)
+          (at-word-at .word-at .result) (at-word-at .word-at .ensures),
+    ))
 
 add-made : tie.Need-add-made Inv-loop μ-loop
 add-made c = omega (arith, c .before .before .before .before .before .before .before .before .before .before .good .1 .1 .1 .1 .1 .0)
 
 returns-3 : tie.Need-returns-3 Inv-loop μ-loop
-returns-3 c = replied (reply (equationsOf (c .before .before .before .before .before .before .before .before .before .before .before .args .bytes .now) (c .before .before .before .before .before .before .before .before .before .before .before .args .query .shape) (c .before .before .before .before .before .before .before .before .before .before .before .args .settings .now)) (c .before .before .before .before .before .before .before .before .before .before .before .args .query .task) (c .before .before .before .before .before .before .before .before .before .before .before .args .vector .now) (c .before .before .before .before .before .before .before .before .before .before .before .args .budget .made)) (Bound (c .before .before .before .loop .t)) (c .before .before .before .loop .made + 1) (c .before .before .before .before .before .before .before .before .before .before .before .args .budget .allowance) (climbing-found (equationsOf (c .before .before .before .before .before .before .before .before .before .before .before .args .bytes .now) (c .before .before .before .before .before .before .before .before .before .before .before .args .query .shape) (c .before .before .before .before .before .before .before .before .before .before .before .args .settings .now) .side (c .before .before .before .before .before .before .before .before .before .before .before .args .query .task) (c .before .before .before .before .before .before .before .before .before .before .before .args .vector .now)) (c .before .before .before .before .before .before .before .word-at .result) (c .before .before .before .before .before .before .before .before .before .before .before .args .budget .allowance) (reply (equationsOf (c .before .before .before .before .before .before .before .before .before .before .before .args .bytes .now) (c .before .before .before .before .before .before .before .before .before .before .before .args .query .shape) (c .before .before .before .before .before .before .before .before .before .before .before .args .settings .now)) (c .before .before .before .before .before .before .before .before .before .before .before .args .query .task) (c .before .before .before .before .before .before .before .before .before .before .before .args .vector .now) (c .before .before .before .before .before .before .before .before .before .before .before .args .budget .made)) (c .before .before .before .loop .t) (c .before .before .before .loop .made) (c .before .before .before .loop .inv) (c .before .right-side .result) (c .before .right-side .ensures .0) (c .if3 .taken)) (omega arith)
+returns-3 c =
+    let entry = c .before .before .before .before .before .before .before .before .before .before .before in
+    let turn = c .before .before .before in
+    replied (reply (equationsOf (entry .args .bytes .now) (entry .args .query .shape) (entry .args .settings .now)) (entry .args .query .task)
+    (entry .args .vector .now) (entry .args .budget .made)) (Bound (turn .loop .t)) (turn .loop .made + 1) (entry .args .budget .allowance)
+    (climbing-found (equationsOf (entry .args .bytes .now) (entry .args .query .shape) (entry .args .settings .now) .side (entry .args .query .task)
+    (entry .args .vector .now)) (c .before .before .before .before .before .before .before .word-at .result) (entry .args .budget .allowance) (reply
+    (equationsOf (entry .args .bytes .now) (entry .args .query .shape) (entry .args .settings .now)) (entry .args .query .task)
+    (entry .args .vector .now) (entry .args .budget .made)) (turn .loop .t) (turn .loop .made) (turn .loop .inv) (c .before .right-side .result)
+    (c .before .right-side .ensures .0) (c .if3 .taken)) (omega arith)
 
 returns-4 : tie.Need-returns-4 Inv-loop μ-loop
-returns-4 c = replied (reply (equationsOf (c .before .before .before .before .before .before .before .before .before .before .before .before .args .bytes .now) (c .before .before .before .before .before .before .before .before .before .before .before .before .args .query .shape) (c .before .before .before .before .before .before .before .before .before .before .before .before .args .settings .now)) (c .before .before .before .before .before .before .before .before .before .before .before .before .args .query .task) (c .before .before .before .before .before .before .before .before .before .before .before .before .args .vector .now) (c .before .before .before .before .before .before .before .before .before .before .before .before .args .budget .made)) Nothing (c .before .before .before .before .loop .made + 1) (c .before .before .before .before .before .before .before .before .before .before .before .before .args .budget .allowance) (climbing-over (equationsOf (c .before .before .before .before .before .before .before .before .before .before .before .before .args .bytes .now) (c .before .before .before .before .before .before .before .before .before .before .before .before .args .query .shape) (c .before .before .before .before .before .before .before .before .before .before .before .before .args .settings .now) .side (c .before .before .before .before .before .before .before .before .before .before .before .before .args .query .task) (c .before .before .before .before .before .before .before .before .before .before .before .before .args .vector .now)) (c .before .before .before .before .before .before .before .before .word-at .result) (c .before .before .before .before .before .before .before .before .before .before .before .before .args .budget .allowance) (reply (equationsOf (c .before .before .before .before .before .before .before .before .before .before .before .before .args .bytes .now) (c .before .before .before .before .before .before .before .before .before .before .before .before .args .query .shape) (c .before .before .before .before .before .before .before .before .before .before .before .before .args .settings .now)) (c .before .before .before .before .before .before .before .before .before .before .before .before .args .query .task) (c .before .before .before .before .before .before .before .before .before .before .before .before .args .vector .now) (c .before .before .before .before .before .before .before .before .before .before .before .before .args .budget .made)) (c .before .before .before .before .loop .t) (c .before .before .before .before .loop .made) (c .before .before .before .before .loop .inv) (c .before .before .right-side .result) (c .before .before .right-side .ensures .0) (c .if4 .taken)) (omega arith)
+returns-4 c =
+    let entry = c .before .before .before .before .before .before .before .before .before .before .before .before in
+    let turn = c .before .before .before .before in
+    let at-right-side = c .before .before in
+    replied (reply (equationsOf (entry .args .bytes .now) (entry .args .query .shape) (entry .args .settings .now)) (entry .args .query .task)
+    (entry .args .vector .now) (entry .args .budget .made)) Nothing (turn .loop .made + 1) (entry .args .budget .allowance) (climbing-over
+    (equationsOf (entry .args .bytes .now) (entry .args .query .shape) (entry .args .settings .now) .side (entry .args .query .task)
+    (entry .args .vector .now)) (c .before .before .before .before .before .before .before .before .word-at .result) (entry .args .budget .allowance)
+    (reply (equationsOf (entry .args .bytes .now) (entry .args .query .shape) (entry .args .settings .now)) (entry .args .query .task)
+    (entry .args .vector .now) (entry .args .budget .made)) (turn .loop .t) (turn .loop .made) (turn .loop .inv) (at-right-side .right-side .result)
+    (at-right-side .right-side .ensures .0) (c .if4 .taken)) (omega arith)
 
 loop-less : tie.Need-loop-less Inv-loop μ-loop
-loop-less c = omega (arith, climbing-rises (equationsOf (c .before .before .before .before .before .before .before .before .before .before .before .before .args .bytes .now) (c .before .before .before .before .before .before .before .before .before .before .before .before .args .query .shape) (c .before .before .before .before .before .before .before .before .before .before .before .before .args .settings .now) .side (c .before .before .before .before .before .before .before .before .before .before .before .before .args .query .task) (c .before .before .before .before .before .before .before .before .before .before .before .before .args .vector .now)) (c .before .before .before .before .before .before .before .before .word-at .result) (c .before .before .before .before .before .before .before .before .before .before .before .before .args .budget .allowance) (reply (equationsOf (c .before .before .before .before .before .before .before .before .before .before .before .before .args .bytes .now) (c .before .before .before .before .before .before .before .before .before .before .before .before .args .query .shape) (c .before .before .before .before .before .before .before .before .before .before .before .before .args .settings .now)) (c .before .before .before .before .before .before .before .before .before .before .before .before .args .query .task) (c .before .before .before .before .before .before .before .before .before .before .before .before .args .vector .now) (c .before .before .before .before .before .before .before .before .before .before .before .before .args .budget .made)) (c .before .before .before .before .loop .t) (c .before .before .before .before .loop .made) (c .before .before .before .before .loop .inv) (c .before .before .right-side .result) (c .before .before .right-side .ensures .0) (c .before .if3 .left))
+loop-less c =
+    let entry = c .before .before .before .before .before .before .before .before .before .before .before .before in
+    let turn = c .before .before .before .before in
+    let at-right-side = c .before .before in
+    omega (
+      arith,
+      climbing-rises (equationsOf (entry .args .bytes .now) (entry .args .query .shape) (entry .args .settings .now) .side
+          (entry .args .query .task) (entry .args .vector .now)) (c .before .before .before .before .before .before .before .before .word-at .result)
+          (entry .args .budget .allowance) (reply (equationsOf (entry .args .bytes .now) (entry .args .query .shape) (entry .args .settings .now))
+          (entry .args .query .task) (entry .args .vector .now) (entry .args .budget .made)) (turn .loop .t) (turn .loop .made) (turn .loop .inv)
+          (at-right-side .right-side .result) (at-right-side .right-side .ensures .0) (c .before .if3 .left),
+    )
 
 loop-again : tie.Need-loop-again Inv-loop μ-loop
-loop-again c = climbing-next (equationsOf (c .before .before .before .before .before .before .before .before .before .before .before .before .args .bytes .now) (c .before .before .before .before .before .before .before .before .before .before .before .before .args .query .shape) (c .before .before .before .before .before .before .before .before .before .before .before .before .args .settings .now) .side (c .before .before .before .before .before .before .before .before .before .before .before .before .args .query .task) (c .before .before .before .before .before .before .before .before .before .before .before .before .args .vector .now)) (c .before .before .before .before .before .before .before .before .word-at .result) (c .before .before .before .before .before .before .before .before .before .before .before .before .args .budget .allowance) (reply (equationsOf (c .before .before .before .before .before .before .before .before .before .before .before .before .args .bytes .now) (c .before .before .before .before .before .before .before .before .before .before .before .before .args .query .shape) (c .before .before .before .before .before .before .before .before .before .before .before .before .args .settings .now)) (c .before .before .before .before .before .before .before .before .before .before .before .before .args .query .task) (c .before .before .before .before .before .before .before .before .before .before .before .before .args .vector .now) (c .before .before .before .before .before .before .before .before .before .before .before .before .args .budget .made)) (c .before .before .before .before .loop .t) (c .before .before .before .before .loop .made) (c .before .before .before .before .loop .inv) (c .before .before .right-side .result) (c .before .before .right-side .ensures .0) (side-rises (c .before .before .before .before .before .before .before .before .before .before .before .before .args .bytes .now) (c .before .before .before .before .before .before .before .before .before .before .before .before .args .settings .now) (c .before .before .before .before .before .before .before .before .before .before .before .before .args .ceilings .now) (c .before .before .before .before .before .before .before .before .before .before .before .before .args .vector .now) (c .before .before .before .before .before .before .before .before .before .before .before .before .args .query) (c .before .before .before .before .before .before .before .before .before .before .before .before .pre .0)) (c .before .if3 .left) (c .if4 .left) (c .before .before .before .if2 .left)
+loop-again c =
+    let entry = c .before .before .before .before .before .before .before .before .before .before .before .before in
+    let turn = c .before .before .before .before in
+    let at-right-side = c .before .before in
+    climbing-next (equationsOf (entry .args .bytes .now) (entry .args .query .shape) (entry .args .settings .now) .side (entry .args .query .task)
+    (entry .args .vector .now)) (c .before .before .before .before .before .before .before .before .word-at .result) (entry .args .budget .allowance)
+    (reply (equationsOf (entry .args .bytes .now) (entry .args .query .shape) (entry .args .settings .now)) (entry .args .query .task)
+    (entry .args .vector .now) (entry .args .budget .made)) (turn .loop .t) (turn .loop .made) (turn .loop .inv) (at-right-side .right-side .result)
+    (at-right-side .right-side .ensures .0) (side-rises (entry .args .bytes .now) (entry .args .settings .now) (entry .args .ceilings .now)
+    (entry .args .vector .now) (entry .args .query) (entry .pre .0)) (c .before .if3 .left) (c .if4 .left) (c .before .before .before .if2 .left)
 
 pub solve-spec : {M : Type 1} → statement M
 solve-spec =

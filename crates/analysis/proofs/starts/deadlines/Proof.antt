@@ -45,7 +45,14 @@ loop-less : tie.Need-loop-less Inv-loop μ-loop
 loop-less c = omega arith
 
 loop-again : tie.Need-loop-again Inv-loop μ-loop
-loop-again c = (omega arith, length-set (c .before .before .loop .vector) (c .before .before .loop .i) (c .word-at .result) ∙ c .before .before .loop .inv .1, front-next (deadlineOf (c .before .before .before .before .before .args .bytes .now)) (c .before .before .loop .vector) (c .before .before .loop .i) (c .word-at .result) (omega arith) (c .before .before .loop .inv .2) (c .word-at .ensures))
+loop-again c =
+    let turn = c .before .before in (
+      omega arith,
+      length-set (turn .loop .vector) (turn .loop .i) (c .word-at .result) ∙ turn .loop .inv .1,
+      front-next (deadlineOf
+          (c .before .before .before .before .before .args .bytes .now)) (turn .loop .vector) (turn .loop .i) (c .word-at .result) (omega arith)
+          (turn .loop .inv .2) (c .word-at .ensures),
+    )
 
 same-length : tie.Need-same-length Inv-loop μ-loop
 same-length c = c .before .loop .inv .1

@@ -8,7 +8,15 @@ deadlines-requires : tie.Need-deadlines-requires
 deadlines-requires c κs = search needs
 
 all-rounds-requires : tie.Need-all-rounds-requires
-all-rounds-requires c κs = (c .before .before .before .before .before .before .before .before .pre .0, (begin-is (c .before .before .before .before .before .before .before .before .args .bytes .now) (c .before .before .before .before .before .before .before .before .args .stand .shape) (c .before .before .before .before .before .before .before .before .args .settings .now) _ _ (c .before .before .before .before .before .before .before .before .args .stand .budget .made) (c .before .before .before .before .deadlines .ensures) (c .before .before .before .before .before .before .before .before .pre .1 .0 .0) (c .before .before .before .before .before .before .before .before .pre .1 .0 .1), c .before .before .before .before .before .before .before .before .pre .1 .1))
+all-rounds-requires c κs =
+    let entry = c .before .before .before .before .before .before .before .before in (
+      entry .pre .0,
+      (
+        begin-is (entry .args .bytes .now) (entry .args .stand .shape) (entry .args .settings .now) _ _
+            (entry .args .stand .budget .made) (c .before .before .before .before .deadlines .ensures) (entry .pre .1 .0 .0) (entry .pre .1 .0 .1),
+        entry .pre .1 .1,
+      ),
+    )
 
 same-length : tie.Need-same-length
 same-length c = search needs

@@ -18,7 +18,14 @@ abbrev μ-loop : tie.MeasureT-loop
 μ-loop bytes settings ceilings vector₀ bounds₀ shape allowance made₀ vector bounds made = sum vector
 
 loop-holds : tie.Need-loop-holds Inv-loop μ-loop
-loop-holds c = (begins (c .before .before .before .args .stand .shape .tasks) (equationsOf (c .before .before .before .args .bytes .now) (c .before .before .before .args .stand .shape) (c .before .before .before .args .settings .now)) (table-lawful (c .before .before .before .args .bytes .now) (c .before .before .before .args .stand .shape) (c .before .before .before .args .settings .now) (c .before .before .before .pre .0 .well)) (c .before .before .before .args .stand .budget .allowance) (c .before .before .before .args .vector .now) (c .before .before .before .args .stand .budget .made) (c .before .before .before .pre .1 .0), c .before .before .before .pre .1 .1, refl)
+loop-holds c =
+    let entry = c .before .before .before in (
+      begins (entry .args .stand .shape .tasks) (equationsOf (entry .args .bytes .now) (entry .args .stand .shape) (entry .args .settings .now))
+          (table-lawful (entry .args .bytes .now) (entry .args .stand .shape) (entry .args .settings .now) (entry .pre .0 .well))
+          (entry .args .stand .budget .allowance) (entry .args .vector .now) (entry .args .stand .budget .made) (entry .pre .1 .0),
+      entry .pre .1 .1,
+      refl,
+    )
 
 one-round-requires : tie.Need-one-round-requires Inv-loop μ-loop
 one-round-requires c κs = (c .before .before .before .before .before .before .pre .0, (c .before .before .loop .inv .0 .way, (c .before .before .loop .inv .0 .counted, c .before .before .loop .inv .1)))
@@ -27,19 +34,55 @@ same-length : tie.Need-same-length Inv-loop μ-loop
 same-length c = c .before .before .before .one-round .kept .1 .1 .1 .0 ∙ c .before .before .before .before .before .before .loop .inv .2
 
 returns : tie.Need-returns Inv-loop μ-loop
-returns c = spent-here (c .before .before .before .before .before .before .before .before .before .before .args .stand .shape .tasks) (equationsOf (c .before .before .before .before .before .before .before .before .before .before .args .bytes .now) (c .before .before .before .before .before .before .before .before .before .before .args .stand .shape) (c .before .before .before .before .before .before .before .before .before .before .args .settings .now)) (table-lawful (c .before .before .before .before .before .before .before .before .before .before .args .bytes .now) (c .before .before .before .before .before .before .before .before .before .before .args .stand .shape) (c .before .before .before .before .before .before .before .before .before .before .args .settings .now) (c .before .before .before .before .before .before .before .before .before .before .pre .0 .well)) (c .before .before .before .before .before .before .before .before .before .before .args .stand .budget .allowance) (c .before .before .before .before .before .before .loop .vector) (c .before .before .before .one-round .last .1 .1 .1 .0) (c .before .before .before .before .before .before .loop .made) (c .before .before .before .one-round .last .1 .1 .1 .1 .0) (c .before .before .before .one-round .result) (c .before .before .before .before .before .before .loop .inv .0) (c .before .before .before .one-round .ensures) (c .if1 .taken)
+returns c =
+    let entry = c .before .before .before .before .before .before .before .before .before .before in
+    let turn = c .before .before .before .before .before .before in
+    let at-one-round = c .before .before .before in
+    spent-here (entry .args .stand .shape .tasks) (equationsOf (entry .args .bytes .now) (entry .args .stand .shape) (entry .args .settings .now))
+    (table-lawful (entry .args .bytes .now) (entry .args .stand .shape) (entry .args .settings .now) (entry .pre .0 .well))
+    (entry .args .stand .budget .allowance) (turn .loop .vector) (at-one-round .one-round .last .1 .1 .1 .0) (turn .loop .made)
+    (at-one-round .one-round .last .1 .1 .1 .1 .0) (at-one-round .one-round .result) (turn .loop .inv .0) (at-one-round .one-round .ensures)
+    (c .if1 .taken)
 
 loop-less : tie.Need-loop-less Inv-loop μ-loop
-loop-less c = round-on (c .before .before .before .before .before .before .before .before .before .before .before .args .stand .shape .tasks) (equationsOf (c .before .before .before .before .before .before .before .before .before .before .before .args .bytes .now) (c .before .before .before .before .before .before .before .before .before .before .before .args .stand .shape) (c .before .before .before .before .before .before .before .before .before .before .before .args .settings .now)) (table-lawful (c .before .before .before .before .before .before .before .before .before .before .before .args .bytes .now) (c .before .before .before .before .before .before .before .before .before .before .before .args .stand .shape) (c .before .before .before .before .before .before .before .before .before .before .before .args .settings .now) (c .before .before .before .before .before .before .before .before .before .before .before .pre .0 .well)) (c .before .before .before .before .before .before .before .before .before .before .before .args .stand .budget .allowance) (c .before .before .before .before .before .before .before .loop .vector) (c .before .before .before .before .one-round .last .1 .1 .1 .0) (c .before .before .before .before .before .before .before .loop .made) (c .before .before .before .before .one-round .last .1 .1 .1 .1 .0) (c .before .before .before .before .one-round .result) (c .before .before .before .before .before .before .before .loop .inv .0) (c .before .before .before .before .one-round .ensures) (c .before .if1 .left) (c .if2 .taken) .1
+loop-less c =
+    let entry = c .before .before .before .before .before .before .before .before .before .before .before in
+    let turn = c .before .before .before .before .before .before .before in
+    let at-one-round = c .before .before .before .before in
+    round-on (entry .args .stand .shape .tasks) (equationsOf (entry .args .bytes .now) (entry .args .stand .shape) (entry .args .settings .now))
+    (table-lawful (entry .args .bytes .now) (entry .args .stand .shape) (entry .args .settings .now) (entry .pre .0 .well))
+    (entry .args .stand .budget .allowance) (turn .loop .vector) (at-one-round .one-round .last .1 .1 .1 .0) (turn .loop .made)
+    (at-one-round .one-round .last .1 .1 .1 .1 .0) (at-one-round .one-round .result) (turn .loop .inv .0) (at-one-round .one-round .ensures)
+    (c .before .if1 .left) (c .if2 .taken) .1
 
 loop-again : tie.Need-loop-again Inv-loop μ-loop
-loop-again c = (round-on (c .before .before .before .before .before .before .before .before .before .before .before .args .stand .shape .tasks) (equationsOf (c .before .before .before .before .before .before .before .before .before .before .before .args .bytes .now) (c .before .before .before .before .before .before .before .before .before .before .before .args .stand .shape) (c .before .before .before .before .before .before .before .before .before .before .before .args .settings .now)) (table-lawful (c .before .before .before .before .before .before .before .before .before .before .before .args .bytes .now) (c .before .before .before .before .before .before .before .before .before .before .before .args .stand .shape) (c .before .before .before .before .before .before .before .before .before .before .before .args .settings .now) (c .before .before .before .before .before .before .before .before .before .before .before .pre .0 .well)) (c .before .before .before .before .before .before .before .before .before .before .before .args .stand .budget .allowance) (c .before .before .before .before .before .before .before .loop .vector) (c .before .before .before .before .one-round .last .1 .1 .1 .0) (c .before .before .before .before .before .before .before .loop .made) (c .before .before .before .before .one-round .last .1 .1 .1 .1 .0) (c .before .before .before .before .one-round .result) (c .before .before .before .before .before .before .before .loop .inv .0) (c .before .before .before .before .one-round .ensures) (c .before .if1 .left) (c .if2 .taken) .0, c .before .before .before .before .one-round .ensures .marks, c .before .before .before .before .one-round .kept .1 .1 .1 .0 ∙ c .before .before .before .before .before .before .before .loop .inv .2)
+loop-again c =
+    let entry = c .before .before .before .before .before .before .before .before .before .before .before in
+    let turn = c .before .before .before .before .before .before .before in
+    let at-one-round = c .before .before .before .before in (
+      round-on (entry .args .stand .shape .tasks) (equationsOf (entry .args .bytes .now) (entry .args .stand .shape) (entry .args .settings .now))
+          (table-lawful (entry .args .bytes .now) (entry .args .stand .shape) (entry .args .settings .now) (entry .pre .0 .well))
+          (entry .args .stand .budget .allowance) (turn .loop .vector) (at-one-round .one-round .last .1 .1 .1 .0) (turn .loop .made)
+          (at-one-round .one-round .last .1 .1 .1 .1 .0) (at-one-round .one-round .result) (turn .loop .inv .0) (at-one-round .one-round .ensures)
+          (c .before .if1 .left) (c .if2 .taken) .0,
+      at-one-round .one-round .ensures .marks,
+      at-one-round .one-round .kept .1 .1 .1 .0 ∙
+          turn .loop .inv .2,
+    )
 
 same-length-2 : tie.Need-same-length-2 Inv-loop μ-loop
 same-length-2 c = c .before .before .before .before .one-round .kept .1 .1 .1 .0 ∙ c .before .before .before .before .before .before .before .loop .inv .2
 
 returns-2 : tie.Need-returns-2 Inv-loop μ-loop
-returns-2 c = last-round (c .before .before .before .before .before .before .before .before .before .before .before .args .stand .shape .tasks) (equationsOf (c .before .before .before .before .before .before .before .before .before .before .before .args .bytes .now) (c .before .before .before .before .before .before .before .before .before .before .before .args .stand .shape) (c .before .before .before .before .before .before .before .before .before .before .before .args .settings .now)) (table-lawful (c .before .before .before .before .before .before .before .before .before .before .before .args .bytes .now) (c .before .before .before .before .before .before .before .before .before .before .before .args .stand .shape) (c .before .before .before .before .before .before .before .before .before .before .before .args .settings .now) (c .before .before .before .before .before .before .before .before .before .before .before .pre .0 .well)) (c .before .before .before .before .before .before .before .before .before .before .before .args .stand .budget .allowance) (c .before .before .before .before .before .before .before .loop .vector) (c .before .before .before .before .one-round .last .1 .1 .1 .0) (c .before .before .before .before .before .before .before .loop .made) (c .before .before .before .before .one-round .last .1 .1 .1 .1 .0) (c .before .before .before .before .one-round .result) (c .before .before .before .before .before .before .before .loop .inv .0) (c .before .before .before .before .one-round .ensures) (c .before .if1 .left) (c .if2 .left)
+returns-2 c =
+    let entry = c .before .before .before .before .before .before .before .before .before .before .before in
+    let turn = c .before .before .before .before .before .before .before in
+    let at-one-round = c .before .before .before .before in
+    last-round (entry .args .stand .shape .tasks) (equationsOf (entry .args .bytes .now) (entry .args .stand .shape) (entry .args .settings .now))
+    (table-lawful (entry .args .bytes .now) (entry .args .stand .shape) (entry .args .settings .now) (entry .pre .0 .well))
+    (entry .args .stand .budget .allowance) (turn .loop .vector) (at-one-round .one-round .last .1 .1 .1 .0) (turn .loop .made)
+    (at-one-round .one-round .last .1 .1 .1 .1 .0) (at-one-round .one-round .result) (turn .loop .inv .0) (at-one-round .one-round .ensures)
+    (c .before .if1 .left) (c .if2 .left)
 
 pub all-rounds-spec : {M : Type 1} → statement M
 all-rounds-spec =

@@ -29,10 +29,16 @@ same-length : tie.Need-same-length
 same-length c = search needs
 
 returns-2 : tie.Need-returns-2
-returns-2 c = lowers-yes (c .before .before .before .before .before .args .vector .now) (c .before .before .before .before .before .args .i) _ (c .before .before .before .before .before .args .answer) (c .before .before .before .before .before .args .changed) (c .before .before .before .answer .given .1) (c .if1 .taken)
+returns-2 c =
+    let entry = c .before .before .before .before .before in
+    lowers-yes (entry .args .vector .now) (entry .args .i) _ (entry .args .answer) (entry .args .changed)
+    (c .before .before .before .answer .given .1) (c .if1 .taken)
 
 returns-3 : tie.Need-returns-3
-returns-3 c = lowers-no (c .before .before .before .before .before .args .vector .now) (c .before .before .before .before .before .args .i) _ (c .before .before .before .before .before .args .answer) (c .before .before .before .before .before .args .changed) (c .before .before .before .answer .given .1) (c .if1 .left)
+returns-3 c =
+    let entry = c .before .before .before .before .before in
+    lowers-no (entry .args .vector .now) (entry .args .i) _ (entry .args .answer) (entry .args .changed) (c .before .before .before .answer .given .1)
+    (c .if1 .left)
 
 pub lower-spec : {M : Type 1} → statement M
 lower-spec =

@@ -46,11 +46,21 @@ field-requires-3 : tie.Need-field-requires-3
 field-requires-3 c κs = search needs
 
 charged-requires : tie.Need-charged-requires
-charged-requires c κs = let b = higher (c .before .before .before .before .before .before .before .before .before .args .bytes .now) (c .before .before .before .before .before .before .before .before .before .args .shape) (c .before .before .before .before .before .before .before .before .before .args .vector .now) (c .before .before .before .before .before .before .before .before .before .args .at) (c .before .before .before .before .before .before .before .before .before .pre .0) (c .before .before .before .before .before .before .before .before .before .args .j) (c .before .before .before .before .before .before .before .before .before .pre .1) in
+charged-requires c κs =
+    let entry = c .before .before .before .before .before .before .before .before .before in
+    let b = higher (entry .args .bytes .now) (entry .args .shape) (entry .args .vector .now) (entry .args .at) (entry .pre .0) (entry .args .j)
+    (entry .pre .1) in
     omega (arith, b .run, b .sleep, b .period, b .period-most, c .before .before .before .before .before .before .field .ensures, c .before .before .before .before .before .field2 .ensures, c .field3 .ensures, c .before .before .before .before .before .before .before .before .before .pre .0 .length-most)
 
 returns : tie.Need-returns
-returns c = (rw (le-leb _ _ (rw (c .before .before .before .before .byte-at .ensures) at (c .before .before .if1 .taken))) (rw (c .before .before .before .before .before .before .before .field .ensures, c .before .before .before .before .before .before .field2 .ensures, c .before .field3 .ensures) at (c .charged .ensures .0)), c .charged .ensures .1)
+returns c = (
+  rw (le-leb _ _ (rw (c .before .before .before .before .byte-at .ensures) at (c .before .before .if1 .taken))) (rw (
+    c .before .before .before .before .before .before .before .field .ensures,
+    c .before .before .before .before .before .before .field2 .ensures,
+    c .before .field3 .ensures,
+  ) at (c .charged .ensures .0)),
+  c .charged .ensures .1,
+)
 
 mul-delayed : tie.Need-mul-delayed
 mul-delayed c = search needs
@@ -59,11 +69,19 @@ shared-slice-read-delayed : tie.Need-shared-slice-read-delayed
 shared-slice-read-delayed c = search needs
 
 delayed-requires : tie.Need-delayed-requires
-delayed-requires c κs = let b = higher (c .before .before .before .before .before .before .before .before .before .args .bytes .now) (c .before .before .before .before .before .before .before .before .before .args .shape) (c .before .before .before .before .before .before .before .before .before .args .vector .now) (c .before .before .before .before .before .before .before .before .before .args .at) (c .before .before .before .before .before .before .before .before .before .pre .0) (c .before .before .before .before .before .before .before .before .before .args .j) (c .before .before .before .before .before .before .before .before .before .pre .1) in
+delayed-requires c κs =
+    let entry = c .before .before .before .before .before .before .before .before .before in
+    let b = higher (entry .args .bytes .now) (entry .args .shape) (entry .args .vector .now) (entry .args .at) (entry .pre .0) (entry .args .j)
+    (entry .pre .1) in
     omega (arith, b .run, b .period, b .period-most, b .value, b .floor, c .before .before .before .before .before .before .field .ensures, c .before .before .before .before .before .field2 .ensures, c .before .before .before .before .before .before .before .before .before .pre .0 .length-most)
 
 returns-2 : tie.Need-returns-2
-returns-2 c = (rw (lt-leb _ _ (rw (c .before .before .before .before .byte-at .ensures) at (c .before .before .if1 .left))) (rw (c .before .before .before .before .before .before .before .field .ensures, c .before .before .before .before .before .before .field2 .ensures) at (c .delayed .ensures .0)), c .delayed .ensures .1)
+returns-2 c = (
+  rw (lt-leb _ _ (rw (c .before .before .before .before .byte-at .ensures) at (c .before .before .if1 .left))) (rw
+      (c .before .before .before .before .before .before .before .field .ensures, c .before .before .before .before .before .before .field2 .ensures) at
+      (c .delayed .ensures .0)),
+  c .delayed .ensures .1,
+)
 
 pub added-spec : {M : Type 1} → statement M
 added-spec =

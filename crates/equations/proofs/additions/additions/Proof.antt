@@ -32,7 +32,19 @@ loop-less : tie.Need-loop-less Inv-loop μ-loop
 loop-less c = omega arith
 
 loop-again : tie.Need-loop-again Inv-loop μ-loop
-loop-again c = (omega arith, cc (c .before .before .loop .inv .1, c .added .ensures .0, sum-more (c .before .before .loop .j) (addition (viewOf (c .before .before .before .before .before .args .bytes .now) (c .before .before .before .before .before .args .shape) (c .before .before .before .before .before .args .settings .now)) (c .before .before .before .before .before .args .at .task) (c .before .before .before .before .before .args .vector .now) (c .before .before .before .before .before .args .at .length))), omega (arith, c .added .ensures .1, c .before .before .loop .inv .2))
+loop-again c =
+    let entry = c .before .before .before .before .before in
+    let turn = c .before .before in (
+      omega arith,
+      cc (
+        turn .loop .inv .1,
+        c .added .ensures .0,
+        sum-more (turn .loop .j) (addition (viewOf (entry .args .bytes .now)
+            (entry .args .shape) (entry .args .settings .now)) (entry .args .at .task) (entry .args .vector .now) (entry .args .at .length)),
+      ),
+      omega
+          (arith, c .added .ensures .1, turn .loop .inv .2),
+    )
 
 returns : tie.Need-returns Inv-loop μ-loop
 returns c = let e : c .before .loop .j ≡ c .before .before .before .before .args .at .task = omega arith in (

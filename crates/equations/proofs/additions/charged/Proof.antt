@@ -17,7 +17,19 @@ mul-result : tie.Need-mul-result
 mul-result c = omega (arith, product (c .ceil-div .result) (c .before .args .run + c .before .args .sleep) 1000000 2000000 (omega (arith, c .ceil-div .ensures, ceil-self (c .before .args .t) (c .before .args .period) (omega arith))) (omega arith))
 
 returns : tie.Need-returns
-returns c = (ap (λ (x : ℕ). x * (c .before .args .run + c .before .args .sleep)) (c .ceil-div .ensures), omega (arith, product (c .ceil-div .result) (c .before .args .run + c .before .args .sleep) 1000000 2000000 (omega (arith, c .ceil-div .ensures, ceil-self (c .before .args .t) (c .before .args .period) (omega arith))) (omega arith)))
+returns c = (
+  ap (λ (x : ℕ). x * (c .before .args .run + c .before .args .sleep)) (c .ceil-div .ensures),
+  omega (
+    arith,
+    product (c .ceil-div .result)
+        (c .before .args .run + c .before .args .sleep) 1000000 2000000 (omega (
+          arith,
+          c .ceil-div .ensures,
+          ceil-self (c .before .args .t)
+              (c .before .args .period) (omega arith),
+        )) (omega arith),
+  ),
+)
 
 pub charged-spec : {M : Type 1} → statement M
 charged-spec = tie.close (tie.spec ceil-div-requires add-result mul-result returns)

@@ -20,7 +20,19 @@ mul-result : tie.Need-mul-result
 mul-result c = omega (arith, product (c .ceil-div .result) (c .before .args .run) 2000000 1000000 (omega (arith, c .ceil-div .ensures, ceil-self (c .before .args .t + c .before .args .value - c .before .args .run) (c .before .args .period) (omega arith))) (omega arith))
 
 returns : tie.Need-returns
-returns c = (ap (λ (x : ℕ). x * c .before .args .run) (c .ceil-div .ensures), omega (arith, product (c .ceil-div .result) (c .before .args .run) 2000000 1000000 (omega (arith, c .ceil-div .ensures, ceil-self (c .before .args .t + c .before .args .value - c .before .args .run) (c .before .args .period) (omega arith))) (omega arith)))
+returns c = (
+  ap (λ (x : ℕ). x * c .before .args .run) (c .ceil-div .ensures),
+  omega (
+    arith,
+    product (c .ceil-div .result) (c .before .args .run) 2000000
+        1000000 (omega (
+          arith,
+          c .ceil-div .ensures,
+          ceil-self (c .before .args .t + c .before .args .value - c .before .args .run)
+              (c .before .args .period) (omega arith),
+        )) (omega arith),
+  ),
+)
 
 pub delayed-spec : {M : Type 1} → statement M
 delayed-spec = tie.close (tie.spec add-ceil-div sub-ceil-div ceil-div-requires mul-result returns)

@@ -33,10 +33,30 @@ index-requires : tie.Need-index-requires
 index-requires c κs = search needs
 
 element-copy-out-if3 : tie.Need-element-copy-out-if3
-element-copy-out-if3 c = omega (arith, c .index .ensures .0, c .before .byte-at .ensures, c .before .before .before .before .before .before .before .before .before .before .before .before .pre .0 .well .use-range (c .before .before .before .before .before .before .before .before .before .before .before .before .args .k) (omega (arith, c .before .before .before .before .before .before .before .before .before .before .before .before .pre .1 .1, c .before .before .before .before .before .before .before .before .before .before .before .before .pre .0 .end)) .resource-most)
+element-copy-out-if3 c =
+    let entry = c .before .before .before .before .before .before .before .before .before .before .before .before in
+    omega (
+      arith,
+      c .index .ensures .0,
+      c .before .byte-at .ensures,
+      entry .pre .0 .well .use-range (entry .args .k) (omega
+          (arith, entry .pre .1 .1, entry .pre .0 .end)) .resource-most,
+    )
 
 returns-3 : tie.Need-returns-3
-returns-3 c = rw (lt-ltb _ _ (rw (c .before .before .before .before .before .before .before .before .before .field .ensures) at (c .before .before .before .before .before .before .before .if1 .left)), le-leb _ _ (rw (c .before .before .before .before .before .before .before .before .before .field .ensures) at (c .before .before .before .before .before .if2 .left)), le-leb _ _ (c .before .before .before .before .before .before .before .before .before .before .before .before .before .before .before .pre .1 .0), lt-ltb _ _ (c .before .before .before .before .before .before .before .before .before .before .before .before .before .before .before .pre .1 .1), lt-leb _ _ (rw (c .before .before .before .index .ensures .0, c .before .before .before .before .byte-at .ensures) at (c .if3 .taken)))
+returns-3 c =
+    let entry = c .before .before .before .before .before .before .before .before .before .before .before .before .before .before .before in
+    let at-field = c .before .before .before .before .before .before .before .before .before in
+    rw (
+      lt-ltb _ _ (rw (at-field .field .ensures) at (c .before .before .before .before .before .before .before .if1 .left)),
+      le-leb _ _ (rw
+          (at-field .field .ensures) at (c .before .before .before .before .before .if2 .left)),
+      le-leb _ _ (entry .pre .1 .0),
+      lt-ltb _ _
+          (entry .pre .1 .1),
+      lt-leb _ _ (rw (c .before .before .before .index .ensures .0, c .before .before .before .before .byte-at .ensures) at
+          (c .if3 .taken)),
+    )
 
 times-of-requires : tie.Need-times-of-requires
 times-of-requires c κs = search needs
@@ -45,7 +65,19 @@ merge-requires : tie.Need-merge-requires
 merge-requires c κs = search needs
 
 returns-4 : tie.Need-returns-4
-returns-4 c = rw (le-leb _ _ (c .before .before .before .before .before .before .before .before .before .before .before .before .before .before .before .before .before .pre .1 .0), lt-ltb _ _ (c .before .before .before .before .before .before .before .before .before .before .before .before .before .before .before .before .before .pre .1 .1), le-leb _ _ (rw (c .before .before .before .before .before .index .ensures .0, c .before .before .before .before .before .before .byte-at .ensures) at (c .before .before .if3 .left))) (rw (c .before .times-of .ensures .0, c .before .before .before .before .before .before .before .before .before .before .before .field .ensures) at (c .merge .ensures))
+returns-4 c =
+    let entry = c .before .before .before .before .before .before .before .before .before .before .before .before .before .before .before .before .before in
+    rw (
+      le-leb _ _ (entry .pre .1 .0),
+      lt-ltb _ _ (entry .pre .1 .1),
+      le-leb _ _ (rw (
+        c .before .before .before .before .before .index .ensures .0,
+        c .before .before .before .before .before .before .byte-at .ensures,
+      ) at (c .before .before .if3 .left)),
+    ) (rw (
+      c .before .times-of .ensures .0,
+      c .before .before .before .before .before .before .before .before .before .before .before .field .ensures,
+    ) at (c .merge .ensures))
 
 pub better-spec : {M : Type 1} → statement M
 better-spec =

@@ -16,10 +16,25 @@ sub-t6 : tie.Need-sub-t6
 sub-t6 c = search needs
 
 mul-t7 : tie.Need-mul-t7
-mul-t7 c = omega (arith, product (c .before .before .smaller .result - c .before .before .before .before .before .args .tally .taken) (c .before .before .before .before .before .args .pick .length) 64 1000000 (omega (arith, c .before .before .smaller .ensures, c .before .before .before .before .before .pre .sleeps)) (c .before .before .before .before .before .pre .length))
+mul-t7 c =
+    let entry = c .before .before .before .before .before in
+    let at-smaller = c .before .before in
+    omega (
+      arith,
+      product (at-smaller .smaller .result - entry .args .tally .taken) (entry .args .pick .length) 64 1000000 (omega
+          (arith, at-smaller .smaller .ensures, entry .pre .sleeps)) (entry .pre .length),
+    )
 
 add-t8 : tie.Need-add-t8
-add-t8 c = omega (arith, c .before .before .before .before .before .before .pre .less, product (c .before .before .before .smaller .result - c .before .before .before .before .before .before .args .tally .taken) (c .before .before .before .before .before .before .args .pick .length) 64 1000000 (omega (arith, c .before .before .before .smaller .ensures, c .before .before .before .before .before .before .pre .sleeps)) (c .before .before .before .before .before .before .pre .length))
+add-t8 c =
+    let entry = c .before .before .before .before .before .before in
+    let at-smaller = c .before .before .before in
+    omega (
+      arith,
+      entry .pre .less,
+      product (at-smaller .smaller .result - entry .args .tally .taken) (entry .args .pick .length) 64 1000000 (omega
+          (arith, at-smaller .smaller .ensures, entry .pre .sleeps)) (entry .pre .length),
+    )
 
 add-smaller : tie.Need-add-smaller
 add-smaller c = search needs
@@ -31,10 +46,25 @@ sub-t11 : tie.Need-sub-t11
 sub-t11 c = search needs
 
 mul-t12 : tie.Need-mul-t12
-mul-t12 c = omega (arith, product (c .before .before .smaller2 .result - c .before .before .before .before .before .before .before .before .before .args .tally .taken) (c .before .before .before .before .before .before .before .before .before .args .pick .length) 65 1000000 (omega (arith, c .before .before .smaller2 .ensures, c .before .before .before .before .before .before .before .before .before .pre .sleeps)) (c .before .before .before .before .before .before .before .before .before .pre .length))
+mul-t12 c =
+    let entry = c .before .before .before .before .before .before .before .before .before in
+    let at-smaller2 = c .before .before in
+    omega (
+      arith,
+      product (at-smaller2 .smaller2 .result - entry .args .tally .taken) (entry .args .pick .length) 65 1000000 (omega
+          (arith, at-smaller2 .smaller2 .ensures, entry .pre .sleeps)) (entry .pre .length),
+    )
 
 add-t13 : tie.Need-add-t13
-add-t13 c = omega (arith, c .before .before .before .before .before .before .before .before .before .before .pre .more, product (c .before .before .before .smaller2 .result - c .before .before .before .before .before .before .before .before .before .before .args .tally .taken) (c .before .before .before .before .before .before .before .before .before .before .args .pick .length) 65 1000000 (omega (arith, c .before .before .before .smaller2 .ensures, c .before .before .before .before .before .before .before .before .before .before .pre .sleeps)) (c .before .before .before .before .before .before .before .before .before .before .pre .length))
+add-t13 c =
+    let entry = c .before .before .before .before .before .before .before .before .before .before in
+    let at-smaller2 = c .before .before .before in
+    omega (
+      arith,
+      entry .pre .more,
+      product (at-smaller2 .smaller2 .result - entry .args .tally .taken) (entry .args .pick .length) 65 1000000 (omega
+          (arith, at-smaller2 .smaller2 .ensures, entry .pre .sleeps)) (entry .pre .length),
+    )
 
 returns : tie.Need-returns
 returns c = rw (c .before .before .before .before .before .before .before .smaller .ensures, c .before .before .before .smaller2 .ensures)

@@ -92,7 +92,17 @@ mul-result : tie.Need-mul-result
 mul-result c = omega (arith, product (c .wide .result) (c .before .before .ceil-div .result) 255 2000000 (c .wide .ensures .1) (omega (arith, jobs-most (c .before .before))))
 
 returns : tie.Need-returns
-returns c = let e = is c in (e, omega (arith, e, times-most (c .before .before .before .before .before .before .before .before .before .before .before .args .bytes .now) (c .before .before .before .before .before .before .before .before .before .before .before .args .vector .now) (c .before .before .before .before .before .before .before .before .before .before .before .args .query) (c .before .before .before .before .before .before .before .before .before .before .before .args .t) (c .before .before .before .before .before .before .before .before .before .before .before .pre .0) (c .before .before .before .before .before .before .before .before .before .before .before .args .k) (c .before .before .before .before .before .before .before .before .before .before .before .pre .1)))
+returns c =
+    let entry = c .before .before .before .before .before .before .before .before .before .before .before in
+    let e = is c in (
+      e,
+      omega (
+        arith,
+        e,
+        times-most (entry .args .bytes .now) (entry .args .vector .now) (entry .args .query) (entry .args .t)
+            (entry .pre .0) (entry .args .k) (entry .pre .1),
+      ),
+    )
 
 pub times-of-spec : {M : Type 1} → statement M
 times-of-spec =

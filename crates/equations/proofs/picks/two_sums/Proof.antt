@@ -20,26 +20,73 @@ wide-requires : tie.Need-wide-requires Inv-loop μ-loop
 wide-requires c κs = search needs
 
 loop-holds : tie.Need-loop-holds Inv-loop μ-loop
-loop-holds c = summing-start (lengthsOf (c .before .before .before .args .bytes .now) (c .before .before .before .args .query .shape)) (listed (c .before .before .before .args .bytes .now) (c .before .before .before .args .ceilings .now) (c .before .before .before .args .vector .now) (c .before .before .before .args .query) (c .before .before .before .args .t)) (c .before .before .before .args .query .shape .uses) (c .wide .result) (λ j l. c .before .before .before .pre .well .use-range j l .length-most)
+loop-holds c =
+    let entry = c .before .before .before in
+    summing-start (lengthsOf (entry .args .bytes .now) (entry .args .query .shape)) (listed (entry .args .bytes .now) (entry .args .ceilings .now)
+    (entry .args .vector .now) (entry .args .query) (entry .args .t)) (entry .args .query .shape .uses) (c .wide .result)
+    (λ j l. entry .pre .well .use-range j l .length-most)
 
 next-pick-requires : tie.Need-next-pick-requires Inv-loop μ-loop
 next-pick-requires c κs = (c .before .before .before .before .before .before .pre, c .before .before .loop .inv .positive)
 
 returns : tie.Need-returns Inv-loop μ-loop
-returns c = rw (← c .before .before .before .before .before .before .wide .ensures .0) (summing-all (lengthsOf (c .before .before .before .before .before .before .before .before .before .args .bytes .now) (c .before .before .before .before .before .before .before .before .before .args .query .shape)) (listed (c .before .before .before .before .before .before .before .before .before .args .bytes .now) (c .before .before .before .before .before .before .before .before .before .args .ceilings .now) (c .before .before .before .before .before .before .before .before .before .args .vector .now) (c .before .before .before .before .before .before .before .before .before .args .query) (c .before .before .before .before .before .before .before .before .before .args .t)) (c .before .before .before .before .before .before .before .before .before .args .query .shape .uses) (c .before .before .before .before .before .before .wide .result) (λ j l. c .before .before .before .before .before .before .before .before .before .pre .well .use-range j l .length-most) (c .before .before .before .before .before .loop .tally) (c .before .before .before .before .before .loop .inv) (c .before .before .next-pick .result) (c .before .before .next-pick .ensures) (c .if2 .taken))
+returns c =
+    let entry = c .before .before .before .before .before .before .before .before .before in
+    let at-wide = c .before .before .before .before .before .before in
+    let turn = c .before .before .before .before .before in
+    let at-next-pick = c .before .before in
+    rw (← at-wide .wide .ensures .0) (summing-all (lengthsOf (entry .args .bytes .now) (entry .args .query .shape)) (listed (entry .args .bytes .now)
+    (entry .args .ceilings .now) (entry .args .vector .now) (entry .args .query) (entry .args .t)) (entry .args .query .shape .uses)
+    (at-wide .wide .result) (λ j l. entry .pre .well .use-range j l .length-most) (turn .loop .tally) (turn .loop .inv)
+    (at-next-pick .next-pick .result) (at-next-pick .next-pick .ensures) (c .if2 .taken))
 
 take-requires : tie.Need-take-requires Inv-loop μ-loop
-take-requires c κs = summing-small (lengthsOf (c .before .before .before .before .before .before .before .before .before .args .bytes .now) (c .before .before .before .before .before .before .before .before .before .args .query .shape)) (listed (c .before .before .before .before .before .before .before .before .before .args .bytes .now) (c .before .before .before .before .before .before .before .before .before .args .ceilings .now) (c .before .before .before .before .before .before .before .before .before .args .vector .now) (c .before .before .before .before .before .before .before .before .before .args .query) (c .before .before .before .before .before .before .before .before .before .args .t)) (c .before .before .before .before .before .before .before .before .before .args .query .shape .uses) (c .before .before .before .before .before .before .wide .result) (λ j l. c .before .before .before .before .before .before .before .before .before .pre .well .use-range j l .length-most) (c .before .before .before .before .before .loop .tally) (c .before .before .before .before .before .loop .inv) (c .before .before .next-pick .result) (c .before .before .next-pick .ensures) (omega (arith, c .before .before .before .before .before .before .wide .ensures .0, c .before .before .before .before .before .before .before .before .before .pre .sleeps)) (c .before .before .before .if1 .taken)
-    (omega (arith, ap (λ (p : Pick). p .times) (c .before .before .next-pick .ensures), pick-small (c .before .before .before .before .before .before .before .before .before .args .bytes .now) (c .before .before .before .before .before .before .before .before .before .args .ceilings .now) (c .before .before .before .before .before .before .before .before .before .args .vector .now) (c .before .before .before .before .before .before .before .before .before .args .query) (c .before .before .before .before .before .before .before .before .before .args .t) (c .before .before .before .before .before .before .before .before .before .pre) (c .before .before .before .before .before .loop .tally .below) (c .before .before .before .before .before .before .before .before .before .args .query .shape .uses) (c .before .before .before .before .before .loop .inv .positive) (omega arith)))
+take-requires c κs =
+    let entry = c .before .before .before .before .before .before .before .before .before in
+    let at-wide = c .before .before .before .before .before .before in
+    let turn = c .before .before .before .before .before in
+    let at-next-pick = c .before .before in
+    summing-small (lengthsOf (entry .args .bytes .now) (entry .args .query .shape)) (listed (entry .args .bytes .now) (entry .args .ceilings .now)
+    (entry .args .vector .now) (entry .args .query) (entry .args .t)) (entry .args .query .shape .uses) (at-wide .wide .result)
+    (λ j l. entry .pre .well .use-range j l .length-most) (turn .loop .tally) (turn .loop .inv) (at-next-pick .next-pick .result)
+    (at-next-pick .next-pick .ensures) (omega (arith, at-wide .wide .ensures .0, entry .pre .sleeps)) (c .before .before .before .if1 .taken)
+    (omega (
+      arith,
+      ap (λ (p : Pick). p .times) (at-next-pick .next-pick .ensures),
+      pick-small (entry .args .bytes .now) (entry .args .ceilings .now) (entry .args .vector .now) (entry .args .query) (entry .args .t)
+          (entry .pre) (turn .loop .tally .below) (entry .args .query .shape .uses) (turn .loop .inv .positive) (omega arith),
+    ))
 
 loop-less : tie.Need-loop-less Inv-loop μ-loop
-loop-less c = rw (c .take .ensures) (summing-less (lengthsOf (c .before .before .before .before .before .before .before .before .before .before .args .bytes .now) (c .before .before .before .before .before .before .before .before .before .before .args .query .shape)) (listed (c .before .before .before .before .before .before .before .before .before .before .args .bytes .now) (c .before .before .before .before .before .before .before .before .before .before .args .ceilings .now) (c .before .before .before .before .before .before .before .before .before .before .args .vector .now) (c .before .before .before .before .before .before .before .before .before .before .args .query) (c .before .before .before .before .before .before .before .before .before .before .args .t)) (c .before .before .before .before .before .before .before .before .before .before .args .query .shape .uses) (c .before .before .before .before .before .before .before .wide .result) (λ j l. c .before .before .before .before .before .before .before .before .before .before .pre .well .use-range j l .length-most) (c .before .before .before .before .before .before .loop .tally) (c .before .before .before .before .before .before .loop .inv) (c .before .before .before .next-pick .result) (c .before .before .before .next-pick .ensures) (c .before .if2 .left) (c .before .before .before .before .if1 .taken))
+loop-less c =
+    let entry = c .before .before .before .before .before .before .before .before .before .before in
+    let turn = c .before .before .before .before .before .before in
+    let at-next-pick = c .before .before .before in
+    rw (c .take .ensures) (summing-less (lengthsOf (entry .args .bytes .now) (entry .args .query .shape)) (listed (entry .args .bytes .now)
+    (entry .args .ceilings .now) (entry .args .vector .now) (entry .args .query) (entry .args .t)) (entry .args .query .shape .uses)
+    (c .before .before .before .before .before .before .before .wide .result) (λ j l. entry .pre .well .use-range j l .length-most)
+    (turn .loop .tally) (turn .loop .inv) (at-next-pick .next-pick .result) (at-next-pick .next-pick .ensures) (c .before .if2 .left)
+    (c .before .before .before .before .if1 .taken))
 
 loop-again : tie.Need-loop-again Inv-loop μ-loop
-loop-again c = rw (c .take .ensures) (summing-next (lengthsOf (c .before .before .before .before .before .before .before .before .before .before .args .bytes .now) (c .before .before .before .before .before .before .before .before .before .before .args .query .shape)) (listed (c .before .before .before .before .before .before .before .before .before .before .args .bytes .now) (c .before .before .before .before .before .before .before .before .before .before .args .ceilings .now) (c .before .before .before .before .before .before .before .before .before .before .args .vector .now) (c .before .before .before .before .before .before .before .before .before .before .args .query) (c .before .before .before .before .before .before .before .before .before .before .args .t)) (c .before .before .before .before .before .before .before .before .before .before .args .query .shape .uses) (c .before .before .before .before .before .before .before .wide .result) (λ j l. c .before .before .before .before .before .before .before .before .before .before .pre .well .use-range j l .length-most) (c .before .before .before .before .before .before .loop .tally) (c .before .before .before .before .before .before .loop .inv) (c .before .before .before .next-pick .result) (c .before .before .before .next-pick .ensures) (c .before .if2 .left) (c .before .before .before .before .if1 .taken))
+loop-again c =
+    let entry = c .before .before .before .before .before .before .before .before .before .before in
+    let turn = c .before .before .before .before .before .before in
+    let at-next-pick = c .before .before .before in
+    rw (c .take .ensures) (summing-next (lengthsOf (entry .args .bytes .now) (entry .args .query .shape)) (listed (entry .args .bytes .now)
+    (entry .args .ceilings .now) (entry .args .vector .now) (entry .args .query) (entry .args .t)) (entry .args .query .shape .uses)
+    (c .before .before .before .before .before .before .before .wide .result) (λ j l. entry .pre .well .use-range j l .length-most)
+    (turn .loop .tally) (turn .loop .inv) (at-next-pick .next-pick .result) (at-next-pick .next-pick .ensures) (c .before .if2 .left)
+    (c .before .before .before .before .if1 .taken))
 
 returns-2 : tie.Need-returns-2 Inv-loop μ-loop
-returns-2 c = rw (← c .before .before .before .wide .ensures .0) (summing-end (lengthsOf (c .before .before .before .before .before .before .args .bytes .now) (c .before .before .before .before .before .before .args .query .shape)) (listed (c .before .before .before .before .before .before .args .bytes .now) (c .before .before .before .before .before .before .args .ceilings .now) (c .before .before .before .before .before .before .args .vector .now) (c .before .before .before .before .before .before .args .query) (c .before .before .before .before .before .before .args .t)) (c .before .before .before .before .before .before .args .query .shape .uses) (c .before .before .before .wide .result) (λ j l. c .before .before .before .before .before .before .pre .well .use-range j l .length-most) (c .before .before .loop .tally) (c .before .before .loop .inv) (c .if1 .left))
+returns-2 c =
+    let entry = c .before .before .before .before .before .before in
+    let at-wide = c .before .before .before in
+    let turn = c .before .before in
+    rw (← at-wide .wide .ensures .0) (summing-end (lengthsOf (entry .args .bytes .now) (entry .args .query .shape)) (listed (entry .args .bytes .now)
+    (entry .args .ceilings .now) (entry .args .vector .now) (entry .args .query) (entry .args .t)) (entry .args .query .shape .uses)
+    (at-wide .wide .result) (λ j l. entry .pre .well .use-range j l .length-most) (turn .loop .tally) (turn .loop .inv) (c .if1 .left))
 
 pub two-sums-spec : {M : Type 1} → statement M
 two-sums-spec =

@@ -52,7 +52,14 @@ larger-byte-requires : tie.Need-larger-byte-requires Inv-loop μ-loop
 larger-byte-requires c κs = search needs
 
 array-write-found : tie.Need-array-write-found Inv-loop μ-loop
-array-write-found c = omega (arith, c .before .before .index .ensures .0, c .before .before .before .byte-at .ensures, c .before .before .before .before .before .before .before .pre .use-range (c .before .before .before .before .before .loop .k) (c .before .before .before .before .loop-test .taken) .resource-most)
+array-write-found c =
+    omega (
+      arith,
+      c .before .before .index .ensures .0,
+      c .before .before .before .byte-at .ensures,
+      c .before .before .before .before .before .before .before .pre .use-range (c .before .before .before .before .before .loop .k)
+          (c .before .before .before .before .loop-test .taken) .resource-most,
+    )
 
 add-k : tie.Need-add-k Inv-loop μ-loop
 add-k c = omega arith
@@ -61,7 +68,23 @@ loop-less : tie.Need-loop-less Inv-loop μ-loop
 loop-less c = omega arith
 
 loop-again : tie.Need-loop-again Inv-loop μ-loop
-loop-again c = (omega arith, length-set (c .before .before .before .before .before .loop .found) (c .before .before .index .result) (c .larger-byte .result) ∙ c .before .before .before .before .before .loop .inv .1, ceilings-next (c .before .before .before .before .before .before .before .args .bytes .now) (c .before .before .before .before .before .before .before .args .shape .«uses_at») (c .before .before .before .before .before .loop .k) (c .before .before .before .before .before .loop .found) (c .before .before .index .result) (c .larger-byte .result) (c .before .before .before .before .before .loop .inv .1) (c .before .before .before .before .before .loop .inv .2) (c .before .before .index .ensures .0 ∙ c .before .before .before .byte-at .ensures) (omega (arith, c .before .before .index .ensures .0, c .before .before .before .byte-at .ensures, c .before .before .before .before .before .before .before .pre .use-range (c .before .before .before .before .before .loop .k) (c .before .before .before .before .loop-test .taken) .resource-most)) (rw (c .before .byte-at2 .ensures) at (c .larger-byte .ensures)))
+loop-again c =
+    let entry = c .before .before .before .before .before .before .before in
+    let turn = c .before .before .before .before .before in
+    let at-byte-at = c .before .before .before in
+    let at-index = c .before .before in (
+      omega arith,
+      length-set (turn .loop .found) (at-index .index .result) (c .larger-byte .result) ∙ turn .loop .inv .1,
+      ceilings-next
+          (entry .args .bytes .now) (entry .args .shape .«uses_at») (turn .loop .k) (turn .loop .found) (at-index .index .result) (c .larger-byte .result)
+          (turn .loop .inv .1) (turn .loop .inv .2) (at-index .index .ensures .0 ∙ at-byte-at .byte-at .ensures) (omega (
+            arith,
+            at-index .index .ensures .0,
+            at-byte-at .byte-at .ensures,
+            entry .pre .use-range (turn .loop .k) (c .before .before .before .before .loop-test .taken) .resource-most,
+          )) (rw
+          (c .before .byte-at2 .ensures) at (c .larger-byte .ensures)),
+    )
 
 returns : tie.Need-returns Inv-loop μ-loop
 unfolding ceiling

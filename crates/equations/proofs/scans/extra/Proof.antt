@@ -38,7 +38,15 @@ loop-less : tie.Need-loop-less Inv-loop μ-loop
 loop-less c = omega arith
 
 loop-again : tie.Need-loop-again Inv-loop μ-loop
-loop-again c = (omega (arith, c .before .before .before .loop .inv .0), omega arith, longest-next (c .before .before .before .before .before .args .bytes .now) (c .before .before .before .before .before .args .ceilings .now) (c .before .before .before .before .before .args .shape .«uses_at») (c .before .before .before .before .before .args .priority) (c .before .before .before .before .before .args .first) (c .before .before .before .loop .k) (c .before .before .before .loop .best) (c .larger .result) (c .before .before .before .loop .inv .0) (c .before .before .before .loop .inv .2) (rw (c .before .reaching-length .ensures) at (c .larger .ensures)))
+loop-again c =
+    let entry = c .before .before .before .before .before in
+    let turn = c .before .before .before in (
+      omega (arith, turn .loop .inv .0),
+      omega arith,
+      longest-next (entry .args .bytes .now) (entry .args .ceilings .now)
+          (entry .args .shape .«uses_at») (entry .args .priority) (entry .args .first) (turn .loop .k) (turn .loop .best) (c .larger .result)
+          (turn .loop .inv .0) (turn .loop .inv .2) (rw (c .before .reaching-length .ensures) at (c .larger .ensures)),
+    )
 
 returns : tie.Need-returns Inv-loop μ-loop
 returns c = let e : c .before .loop .k ≡ c .before .before .before .args .shape .uses = omega arith in

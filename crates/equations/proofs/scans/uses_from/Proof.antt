@@ -33,7 +33,11 @@ wide-requires : tie.Need-wide-requires Inv-loop μ-loop
 wide-requires c κs = search needs
 
 returns : tie.Need-returns Inv-loop μ-loop
-returns c = uses-from (c .before .before .before .before .before .before .args .bytes .now) (c .before .before .before .before .before .before .args .shape) (c .before .before .before .before .before .before .pre) (c .before .before .before .before .before .before .args .least) (c .before .before .before .before .loop .k) (omega arith) (c .before .before .before .before .loop .inv .1) (λ l. omega (arith, c .if1 .taken, c .before .wide .ensures .0, c .before .before .byte-at .ensures))
+returns c =
+    let entry = c .before .before .before .before .before .before in
+    let turn = c .before .before .before .before in
+    uses-from (entry .args .bytes .now) (entry .args .shape) (entry .pre) (entry .args .least) (turn .loop .k) (omega arith) (turn .loop .inv .1) (λ
+    l. omega (arith, c .if1 .taken, c .before .wide .ensures .0, c .before .before .byte-at .ensures))
 
 add-k : tie.Need-add-k Inv-loop μ-loop
 add-k c = omega arith
@@ -42,7 +46,13 @@ loop-less : tie.Need-loop-less Inv-loop μ-loop
 loop-less c = omega arith
 
 loop-again : tie.Need-loop-again Inv-loop μ-loop
-loop-again c = (omega arith, below-more (λ j. c .before .before .before .before .before .before .args .least ≤ useOf (c .before .before .before .before .before .before .args .bytes .now) (c .before .before .before .before .before .before .args .shape .«uses_at») j .priority) (c .before .before .before .before .loop .k) (c .before .before .before .before .loop .inv .1) (omega (arith, c .if1 .left, c .before .wide .ensures .0, c .before .before .byte-at .ensures)))
+loop-again c =
+    let entry = c .before .before .before .before .before .before in
+    let turn = c .before .before .before .before in (
+      omega arith,
+      below-more (λ j. entry .args .least ≤ useOf (entry .args .bytes .now) (entry .args .shape .«uses_at») j .priority) (turn .loop .k)
+          (turn .loop .inv .1) (omega (arith, c .if1 .left, c .before .wide .ensures .0, c .before .before .byte-at .ensures)),
+    )
 
 returns-2 : tie.Need-returns-2 Inv-loop μ-loop
 returns-2 c = uses-from (c .before .before .before .args .bytes .now) (c .before .before .before .args .shape) (c .before .before .before .pre) (c .before .before .before .args .least) (c .before .loop .k) (omega arith) (c .before .loop .inv .1) (λ l. absurd (omega arith))

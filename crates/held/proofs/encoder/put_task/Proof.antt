@@ -53,10 +53,19 @@ put-word-requires-4 : tie.Need-put-word-requires-4
 put-word-requires-4 c κs = omega (arith, c .before .before .before .put-word3 .kept .0, c .before .before .before .before .before .before .before .put-word2 .kept .0, simp length-set at (c .before .before .before .before .before .before .before .before .before .before .before .put-word .kept .0))
 
 same-length : tie.Need-same-length
-same-length c = c .before .before .put-word4 .kept .0 ∙ c .before .before .before .before .before .before .put-word3 .kept .0 ∙ c .before .before .before .before .before .before .before .before .before .before .put-word2 .kept .0 ∙ c .before .before .before .before .before .before .before .before .before .before .before .before .before .before .put-word .kept .0 ∙ simp length-set
+same-length c =
+    c .before .before .put-word4 .kept .0 ∙ c .before .before .before .before .before .before .put-word3 .kept .0 ∙
+    c .before .before .before .before .before .before .before .before .before .before .put-word2 .kept .0 ∙
+    c .before .before .before .before .before .before .before .before .before .before .before .before .before .before .put-word .kept .0 ∙ simp
+    length-set
 
 returns : tie.Need-returns
-returns c = task-put (c .before .before .before .before .before .before .before .before .before .before .before .before .before .before .before .before .before .args .buffer .now) (c .before .before .before .before .before .before .before .before .before .before .before .before .before .before .before .before .before .args .at) (c .before .before .before .before .before .before .before .before .before .before .before .before .before .before .before .before .before .args .task) _ _ _ _ (c .before .before .before .before .before .before .before .before .before .before .before .before .before .before .put-word .ensures) (c .before .before .before .before .before .before .before .before .before .before .put-word2 .ensures) (c .before .before .before .before .before .before .put-word3 .ensures) (c .before .before .put-word4 .ensures)
+returns c =
+    let entry = c .before .before .before .before .before .before .before .before .before .before .before .before .before .before .before .before .before in
+    task-put (entry .args .buffer .now) (entry .args .at) (entry .args .task) _ _ _ _
+    (c .before .before .before .before .before .before .before .before .before .before .before .before .before .before .put-word .ensures)
+    (c .before .before .before .before .before .before .before .before .before .before .put-word2 .ensures)
+    (c .before .before .before .before .before .before .put-word3 .ensures) (c .before .before .put-word4 .ensures)
 
 pub put-task-spec : {M : Type 1} → statement M
 put-task-spec =

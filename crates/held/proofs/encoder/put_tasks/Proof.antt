@@ -40,7 +40,15 @@ loop-less : tie.Need-loop-less Inv-loop μ-loop
 loop-less c = omega arith
 
 loop-again : tie.Need-loop-again Inv-loop μ-loop
-loop-again c = (omega arith, c .before .before .put-task .kept .0 ∙ c .before .before .before .before .before .before .loop .inv .1, ap (take (20 * (c .before .before .before .before .before .before .loop .i + 1))) (c .before .before .put-task .ensures) ∙ put-next taskBytes 20 (λ x. refl) (λ (i : ℕ). getD (c .before .before .before .before .before .before .before .before .args .t2) i noTask) (λ (i : ℕ). 20 * i) (λ j. omega arith) [] (c .before .before .before .before .before .before .loop .buffer) (c .before .before .before .before .before .before .loop .i) (omega arith) (c .before .before .before .before .before .before .loop .inv .2))
+loop-again c =
+    let turn = c .before .before .before .before .before .before in
+    let at-put-task = c .before .before in (
+      omega arith,
+      at-put-task .put-task .kept .0 ∙ turn .loop .inv .1,
+      ap (take (20 * (turn .loop .i + 1))) (at-put-task .put-task .ensures) ∙
+          put-next taskBytes 20 (λ x. refl) (λ (i : ℕ). getD (c .before .before .before .before .before .before .before .before .args .t2) i noTask) (λ
+          (i : ℕ). 20 * i) (λ j. omega arith) [] (turn .loop .buffer) (turn .loop .i) (omega arith) (turn .loop .inv .2),
+    )
 
 same-length : tie.Need-same-length Inv-loop μ-loop
 same-length c = c .before .loop .inv .1

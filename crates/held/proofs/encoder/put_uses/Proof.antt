@@ -44,13 +44,26 @@ loop-less : tie.Need-loop-less Inv-loop μ-loop
 loop-less c = omega arith
 
 loop-again : tie.Need-loop-again Inv-loop μ-loop
-loop-again c = (omega arith, c .before .before .put-use .kept .0 ∙ c .before .before .before .before .before .before .loop .inv .1, ap (take (c .before .before .before .before .before .before .before .before .args .start + 8 * (c .before .before .before .before .before .before .loop .i + 1))) (c .before .before .put-use .ensures) ∙ put-next useBytes 8 (λ x. refl) (λ (j : ℕ). getD (c .before .before .before .before .before .before .before .before .args .t3) j noUse) (λ (j : ℕ). c .before .before .before .before .before .before .before .before .args .start + 8 * j) (λ j. omega arith) (take (c .before .before .before .before .before .before .before .before .args .start) (c .before .before .before .before .before .before .before .before .args .buffer .now)) (c .before .before .before .before .before .before .loop .buffer) (c .before .before .before .before .before .before .loop .i) (omega arith) (c .before .before .before .before .before .before .loop .inv .2))
+loop-again c =
+    let entry = c .before .before .before .before .before .before .before .before in
+    let turn = c .before .before .before .before .before .before in
+    let at-put-use = c .before .before in (
+      omega arith,
+      at-put-use .put-use .kept .0 ∙ turn .loop .inv .1,
+      ap (take (entry .args .start + 8 * (turn .loop .i + 1)))
+          (at-put-use .put-use .ensures) ∙ put-next useBytes 8 (λ x. refl) (λ (j : ℕ). getD (entry .args .t3) j noUse) (λ (j : ℕ). entry .args .start + 8 *
+          j) (λ j. omega arith) (take (entry .args .start) (entry .args .buffer .now)) (turn .loop .buffer) (turn .loop .i) (omega arith)
+          (turn .loop .inv .2),
+    )
 
 same-length : tie.Need-same-length Inv-loop μ-loop
 same-length c = c .before .loop .inv .1
 
 returns : tie.Need-returns Inv-loop μ-loop
-returns c = let e : c .before .loop .i ≡ c .before .before .before .args .count = omega arith in ap (λ (n : ℕ). take (c .before .before .before .args .start + 8 * n) (c .before .loop .buffer)) (sym e) ∙ c .before .loop .inv .2 ∙ ap (λ (n : ℕ). take (c .before .before .before .args .start) (c .before .before .before .args .buffer .now) ++ usesBytes (c .before .before .before .args .t3) n) e
+returns c =
+    let entry = c .before .before .before in
+    let e : c .before .loop .i ≡ entry .args .count = omega arith in ap (λ (n : ℕ). take (entry .args .start + 8 * n) (c .before .loop .buffer))
+    (sym e) ∙ c .before .loop .inv .2 ∙ ap (λ (n : ℕ). take (entry .args .start) (entry .args .buffer .now) ++ usesBytes (entry .args .t3) n) e
 
 pub put-uses-spec : {M : Type 1} → statement M
 put-uses-spec =

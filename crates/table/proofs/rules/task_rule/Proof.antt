@@ -25,11 +25,29 @@ task-fits-requires c κs = search needs
 
 returns-4 : tie.Need-returns-4
 unfolding taskRule
-returns-4 c = simp (lt-leb _ _ (c .before .before .before .before .before .before .before .if1 .left), lt-leb _ _ (c .before .before .before .before .before .if2 .left), lt-leb _ _ (rw (c .before .before .before .before .wide .ensures .0) at (c .before .before .if3 .left)), ← c .before .task-fits .ensures, c .if4 .taken)
+returns-4 c =
+    simp (
+      lt-leb _ _ (c .before .before .before .before .before .before .before .if1 .left),
+      lt-leb _ _
+          (c .before .before .before .before .before .if2 .left),
+      lt-leb _ _ (rw (c .before .before .before .before .wide .ensures .0) at
+          (c .before .before .if3 .left)),
+      ← c .before .task-fits .ensures,
+      c .if4 .taken,
+    )
 
 returns-5 : tie.Need-returns-5
 unfolding taskRule
-returns-5 c = simp (lt-leb _ _ (c .before .before .before .before .before .before .before .if1 .left), lt-leb _ _ (c .before .before .before .before .before .if2 .left), lt-leb _ _ (rw (c .before .before .before .before .wide .ensures .0) at (c .before .before .if3 .left)), ← c .before .task-fits .ensures, c .if4 .left)
+returns-5 c =
+    simp (
+      lt-leb _ _ (c .before .before .before .before .before .before .before .if1 .left),
+      lt-leb _ _
+          (c .before .before .before .before .before .if2 .left),
+      lt-leb _ _ (rw (c .before .before .before .before .wide .ensures .0) at
+          (c .before .before .if3 .left)),
+      ← c .before .task-fits .ensures,
+      c .if4 .left,
+    )
 
 pub task-rule-spec : {M : Type 1} → statement M
 task-rule-spec =
