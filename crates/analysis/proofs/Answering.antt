@@ -7,18 +7,18 @@ use native.Mathlib.Decide.{decLt}
 use native.Mathlib.Omega.{arith}
 use lib.ListN.{getD, length, drop, replicate, length-append, length-replicate, getD-replicate, List·getD-append, List·getD-eq-default, replicate-append-replicate}
 use lib.Seq.{ext-getD, getD-append-add, drop-at}
-use borrow.Author.Tests.{le-leb, lt-leb}
 use Rattle.table.specs.declared.Shape.{Shape}
 use Rattle.table.specs.declared.Reading.the-variants.{Accepted}
-use Rattle.table.specs.Indexed.{every}
+use Rattle.table.specs.Indexed.{allTo, every}
 use Rattle.table.specs.WellFormed.{WellFormed}
-use Rattle.table.proofs.Indexed.{length-every, getD-every}
+use Rattle.table.proofs.Indexed.{all-same, length-every, getD-every}
 use Rattle.rounds.specs.Rounds.{Progress, analysis, answer, begin}
+use Rattle.rounds.specs.AllowanceLaws.{within-allowed, beyond-refused}
 use Rattle.equations.specs.View.{ownSettings}
 use Rattle.analysis.specs.declared.Analysis.{Analysis}
 use Rattle.analysis.specs.declared.turns.Round.{Round}
 use Rattle.analysis.specs.Rounding.{deadlineOf, progress, bounded, Marks, Settled}
-use Rattle.analysis.specs.Analysing.{ownSystem, refusedBy, analysedAs}
+use Rattle.analysis.specs.Analysing.{ownSystem, refusedBy, verdictOf, analysedAs}
 use Rattle.analysis.proofs.Table.{equationsOf, table-size}
 
 -- the rounds begin at the deadlines
@@ -69,18 +69,20 @@ module _ (s : List ℕ) (h : Shape) (w : WellFormed s h) (allowance : ℕ) (sett
   -- the total is above the allowance
   pub spent-is : (a : Analysis) → a ≡ refusedBy (record { number = 8; place = 0 }) → r .spent ≡ true → a ≡ analysedAs (Accepted h) s allowance
   unfolding analysedAs
-  spent-is a e f = rw (lt-leb (analysis (ownSystem s h) .evaluations) allowance (ours .beyond f)) e
+  spent-is a e f = rw (beyond-refused (ownSystem s h) allowance (ours .beyond f)) e
 
   -- it is within
-  pub done-is : (values : List ℕ) → values ≡ v ++ drop (h .tasks) (replicate 32 0) → r .spent ≡ false
-      → record { refusal = record { number = 0; place = 0 }; tasks = h .tasks; evaluations = r .evaluations; values = values; bounds = b } ≡ analysedAs (Accepted h) s allowance
+  pub done-is : (values : List ℕ) (verdict : Bool) → values ≡ v ++ drop (h .tasks) (replicate 32 0) → verdict ≡ allTo (h .tasks) (λ i. getD b i false) → r .spent ≡ false
+      → record { refusal = record { number = 0; place = 0 }; tasks = h .tasks; verdict = verdict; evaluations = r .evaluations; values = values; bounds = b } ≡ analysedAs (Accepted h) s allowance
   unfolding analysedAs
-  done-is values e f =
+  done-is values verdict e o f =
       let final = ours .within f in
       let count : r .evaluations ≡ analysis (ownSystem s h) .evaluations = ap (λ (p : Progress). p .evaluations) (final .done) in
       let vector : v ≡ analysis (ownSystem s h) .vector = ap (λ (p : Progress). p .vector) (final .done) in
       let all : values ≡ analysis (ownSystem s h) .vector ++ replicate (32 - h .tasks) 0 =
       e ∙ ap (λ (x : List ℕ). v ++ x) (zeros-left (h .tasks) (w .tasks-most)) ∙ ap (λ (x : List ℕ). x ++ replicate (32 - h .tasks) 0) vector in
-      let marks = marks-are (h .tasks) (λ i. bounded (answer (ownSystem s h) i)) b (w .tasks-most) (ours .marks)
-      (λ i l. final .bounds-are i (rw (table-size s h (ownSettings s (h .tasks)) w) l)) in
-      rw (le-leb (analysis (ownSystem s h) .evaluations) allowance (omega (arith, final .counted)), count, all, marks)
+      let each : (i : ℕ) → i < h .tasks → getD b i false ≡ bounded (answer (ownSystem s h) i) =
+      λ i l. final .bounds-are i (rw (table-size s h (ownSettings s (h .tasks)) w) l) in
+      let marks = marks-are (h .tasks) (λ i. bounded (answer (ownSystem s h) i)) b (w .tasks-most) (ours .marks) each in
+      let said : verdict ≡ verdictOf s h = o ∙ all-same (h .tasks) (λ i. getD b i false) (λ i. bounded (answer (ownSystem s h) i)) each in
+      rw (within-allowed (ownSystem s h) allowance (omega (arith, final .counted)), count, all, marks, said)

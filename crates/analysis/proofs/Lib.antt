@@ -4,4 +4,5 @@ mod Settling
 mod Starting
 mod Answering
 pub mod Right
+pub mod Replies
 mod Cases

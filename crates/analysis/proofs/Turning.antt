@@ -10,7 +10,6 @@ use borrow.Author.Count.{below-more}
 use borrow.Author.Tests.{lt-ltb, le-ltb}
 use Rattle.table.specs.declared.Shape.{Shape}
 use Rattle.table.specs.WellFormed.{taskOf, WellFormed}
-use Rattle.rounds.specs.Answer as theory
 use Rattle.rounds.specs.System.{System, size}
 use Rattle.rounds.specs.OnWay.{OnWay, on-way-floor}
 use Rattle.equations.specs.declared.Query.{Query}

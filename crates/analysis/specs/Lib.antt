@@ -1,3 +1,4 @@
 pub mod Solving
 pub mod Rounding
 pub mod Analysing
+pub mod Answering

@@ -3,6 +3,7 @@ ghost use mathlib.Core.Path.{_≡_};
 ghost use Rattle.table.specs.declared.Reading.the-variants.{Accepted};
 ghost use Rattle.table.specs.WellFormed.{WellFormed};
 ghost use Rattle.analysis.specs.Analysing.{refusedBy, analysedAs, analysed};
+ghost use Rattle.analysis.specs.Answering.{told, answerAt};
 
 mod solver;
 mod starts;
@@ -12,9 +13,16 @@ use table::Reading;
 use table::Refusal;
 use table::Shape;
 
-// What a task is answered: its bound, or none.
+// What the solver answers for a task under a vector: its bound, or none.
 pub enum Answer {
     Bound(u64),
+    Nothing,
+}
+
+// What the analysis answers for a task: its bound; its value on the condition that a task with none is mended; or none.
+pub enum TaskAnswer {
+    Bound(u64),
+    Conditional(u64),
     Nothing,
 }
 
@@ -37,14 +45,40 @@ pub struct Stand {
     pub budget: Budget,
 }
 
-// What the analysis of a table answers: a refusal, with number 0 where there is none; the tasks and the evaluations; and for each task its
-// value in the final vector, and whether it is a bound.
+// What the analysis of a table answers: a refusal, with number 0 where there is none; the tasks; the verdict, whether every task has a bound;
+// the evaluations; and for each task its value in the final vector, and whether it has a bound. The last two are told by `answer` alone.
 pub struct Analysis {
     pub refusal: Refusal,
     pub tasks: usize,
+    pub verdict: bool,
     pub evaluations: u64,
-    pub values: [u64; 32],
-    pub bounds: [bool; 32],
+    values: [u64; 32],
+    bounds: [bool; 32],
+}
+
+// A value as it may be told: a bound only where every task has one.
+fn told(verdict: bool, bound: bool, value: u64) -> TaskAnswer
+    ensures { λ r. ⌜ r ≡ told verdict bound value ⌝ }
+{
+    if bound {
+        if verdict {
+            return TaskAnswer::Bound(value);
+        }
+        return TaskAnswer::Conditional(value);
+    }
+    TaskAnswer::Nothing
+}
+
+impl Analysis {
+    // What the task at a place is answered; none where there is no task.
+    pub fn answer(self, place: usize) -> TaskAnswer
+        ensures { λ r. ⌜ r ≡ answerAt self place ⌝ }
+    {
+        if 32 <= place {
+            return TaskAnswer::Nothing;
+        }
+        told(self.verdict, self.bounds[place], self.values[place])
+    }
 }
 
 // A refusal: everything else is 0.
@@ -54,6 +88,7 @@ fn refused(refusal: Refusal) -> Analysis
     Analysis {
         refusal,
         tasks: 0,
+        verdict: false,
         evaluations: 0,
         values: [0; 32],
         bounds: [false; 32],
@@ -94,6 +129,7 @@ fn analyse_accepted(bytes: &[u8], shape: Shape, allowance: u64) -> Analysis
             place: 0,
         },
         tasks,
+        verdict: turns::all_bounded(&bounds, tasks),
         evaluations: round.evaluations,
         values,
         bounds,

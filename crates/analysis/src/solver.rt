@@ -1,5 +1,4 @@
 // One task: its right side from C + S on, until it meets the length or passes the deadline.
-ghost use mathlib.Core.Path.{_≡_};
 ghost use Prim.Native.Nat.{_≤_, _<_};
 ghost use Rattle.rounds.specs.Rounds.{reply};
 ghost use Rattle.equations.specs.View.{viewOf};

@@ -1,7 +1,9 @@
 // Rounds over the tasks by falling priority, a smaller bound replacing the value at once.
 ghost use mathlib.Core.Path.{_≡_};
 ghost use Prim.Native.Nat.{_≤_, _<_};
-ghost use lib.ListN.{length};
+ghost use lib.ListN.{getD, length};
+ghost use mathlib.Core.Bool.{false};
+ghost use Rattle.table.specs.Indexed.{allTo};
 ghost use Rattle.rounds.specs.OnWay.{OnWay};
 ghost use Rattle.rounds.specs.Rounds.{begin};
 ghost use Rattle.equations.specs.View.{viewOf};
@@ -29,6 +31,20 @@ fn is_bound(answer: Answer) -> bool
         Answer::Bound(_) => true,
         Answer::Nothing => false,
     }
+}
+
+// Whether each of the tasks is marked as one with a bound.
+pub fn all_bounded(bounds: &[bool; 32], tasks: usize) -> bool
+    requires { ⌜ tasks ≤ 32 ⌝ }
+    ensures { λ r. ⌜ r ≡ allTo tasks (λ i. getD (now (bounds .entry)) i false) ⌝ }
+{
+    let mut all = true;
+    let mut i = 0;
+    while i < tasks {
+        all &= bounds[i];
+        i += 1;
+    }
+    all
 }
 
 // A smaller bound replaces the value at a place. The flag is raised where it does.

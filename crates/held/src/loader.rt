@@ -1,7 +1,6 @@
 // Filling a held table from a table's bytes.
 ghost use mathlib.Core.Path.{_≡_};
 ghost use Prim.Native.Nat.{_+_, _*_, _≤_, _<_};
-ghost use lib.ListN.{length};
 ghost use Rattle.held.specs.Loading.{tasksOf, usesOf, filledBy};
 use crate::Table;
 use table::Task;

@@ -1,6 +1,7 @@
--- Laws of sums and lists over an index.
+-- Laws of sums, tests and lists over an index.
 use Prim.Native.Nat.{ℕ, zero, suc, _+_, _-_, _<_, _≤_}
 use mathlib.Core.Path.{_≡_, refl, sym, ap, _∙_}
+use mathlib.Core.Bool.{Bool, true, false, _&&_}
 use mathlib.Core.List.{List, [], _∷_, _++_, append-assoc}
 use native.Mathlib.Numerals.{add-one}
 use native.Mathlib.Nat.{add-zero}
@@ -8,7 +9,7 @@ use native.Mathlib.Decide.{ℕ-discrete}
 use native.Mathlib.Omega.{arith}
 use lib.ListN.{length, getD, set, take, drop, replicate}
 use lib.Seq.{set-at, drop-cons}
-use Rattle.table.specs.Indexed.{sumTo, every}
+use Rattle.table.specs.Indexed.{sumTo, allTo, every}
 
 -- ---- sums
 
@@ -31,6 +32,47 @@ sum-grows (suc n) k f l = go (ℕ-discrete k (suc n)) (sum-grows n k f)
     go : Dec (k ≡ suc n) → (k ≤ n → sumTo k f ≤ sumTo n f) → sumTo k f ≤ sumTo n f + f n
     go (yes e) more = rw e (omega arith)
     go (no d) more = omega (arith, more (omega arith))
+
+-- ---- tests
+
+-- of one more
+pub all-more : (n : ℕ) (test : ℕ → Bool) → allTo (n + 1) test ≡ allTo n test && test n
+unfolding allTo
+all-more n test = rw add-one
+
+-- equal where they are made
+pub all-same : (n : ℕ) (test other : ℕ → Bool) → ((i : ℕ) → i < n → test i ≡ other i) → allTo n test ≡ allTo n other
+unfolding allTo
+all-same zero test other h = refl
+all-same (suc n) test other h = rw (all-same n test other (λ i l. h i (omega arith)), h n (omega arith))
+
+-- each passes: so do all
+pub all-true : (n : ℕ) (test : ℕ → Bool) → ((i : ℕ) → i < n → test i ≡ true) → allTo n test ≡ true
+unfolding allTo
+all-true zero test h = refl
+all-true (suc n) test h = rw (all-true n test (λ i l. h i (omega arith)), h n (omega arith))
+
+-- all pass: so does each
+pub all-each : (n : ℕ) (test : ℕ → Bool) → allTo n test ≡ true → (i : ℕ) → i < n → test i ≡ true
+unfolding allTo
+all-each zero test e i l = absurd (omega arith)
+all-each (suc n) test e i l = go (allTo n test) (test n) refl refl e (all-each n test) (ℕ-discrete i n)
+  where
+    go : (a b : Bool) → allTo n test ≡ a → test n ≡ b → a && b ≡ true → (allTo n test ≡ true → (i : ℕ) → i < n → test i ≡ true) → Dec (i ≡ n) → test i ≡ true
+    go true b f g h more (yes q) = rw q (g ∙ h)
+    go true b f g h more (no ne) = more f i (omega arith)
+    go false b f g h more d = absurd (let y : _≡_ {A = ℕ} 0 1 = cc in omega arith)
+
+-- not all pass: one doesn't
+pub all-fails : (n : ℕ) (test : ℕ → Bool) → allTo n test ≡ false → (i : ℕ) × (i < n) × (test i ≡ false)
+unfolding allTo
+all-fails zero test e = absurd (let y : _≡_ {A = ℕ} 0 1 = cc in omega arith)
+all-fails (suc n) test e = go (allTo n test) (test n) refl refl e (all-fails n test)
+  where
+    go : (a b : Bool) → allTo n test ≡ a → test n ≡ b → a && b ≡ false → (allTo n test ≡ false → (i : ℕ) × (i < n) × (test i ≡ false))
+        → (i : ℕ) × (i < suc n) × (test i ≡ false)
+    go true b f g h more = (n, omega arith, g ∙ h)
+    go false b f g h more = let w = more f in (w .0, omega (arith, w .1), w .2)
 
 -- ---- lists that a loop fills from the front, one entry a turn
 

@@ -1,7 +1,6 @@
 // The walk over a table's records, one record a step.
 ghost use mathlib.Core.Path.{_≡_};
-ghost use Prim.Native.Nat.{_+_, _*_, _^_, _≤_, _<_};
-ghost use lib.ListN.{length};
+ghost use Prim.Native.Nat.{_+_, _*_, _^_, _<_};
 ghost use Rattle.table.specs.Rules.{withTask, withUse};
 ghost use Rattle.table.specs.Reading.{startWalk, refusal, ruled, taskStep, useStep, endStep, stepAt};
 ghost use Rattle.table.specs.Sound.{Sound, Stepped};

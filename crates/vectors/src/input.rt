@@ -27,3 +27,8 @@ pub fn short_at(bytes: &[u8], at: usize) -> usize
 {
     (table::word_at(bytes, at) % 65536) as usize
 }
+
+// The number of eight bytes, from its low and its high word.
+pub fn long_of(low: u32, high: u32) -> u64 {
+    low as u64 + 4294967296 * high as u64
+}

@@ -1,4 +1,5 @@
 // Runs the cases of data/tables through the proved crates and prints one line for each. second/README.md has the formats.
+mod analysing;
 mod input;
 mod output;
 mod reading;
@@ -13,6 +14,7 @@ fn run_case(fd: i32) -> bool {
     }
     let kind = byte[0];
     match kind {
+        b'A' => analysing::run(fd),
         b'R' => reading::run(fd),
         b'W' => writing::run(fd),
         _ => false,

@@ -2,9 +2,14 @@
 use libc::STDOUT_FILENO;
 use table::Refusal;
 
+// Prints a text.
+pub fn put_text(text: &[u8]) {
+    io::write_all(STDOUT_FILENO, text);
+}
+
 // Prints a text and a number after it.
 pub fn put(text: &[u8], number: u64) {
-    io::write_all(STDOUT_FILENO, text);
+    put_text(text);
     io::print_decimal(STDOUT_FILENO, number);
 }
 
@@ -16,5 +21,5 @@ pub fn put_refusal(refusal: Refusal) {
 
 // Ends a line.
 pub fn end_line() {
-    io::write_all(STDOUT_FILENO, b"\n");
+    put_text(b"\n");
 }

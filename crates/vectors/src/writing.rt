@@ -2,6 +2,7 @@
 use crate::input::byte_at;
 use crate::input::filled;
 use crate::input::front;
+use crate::input::long_of;
 use crate::input::short_at;
 use crate::output::end_line;
 use crate::output::put;
@@ -43,18 +44,13 @@ fn uses_of(images: &[u8]) -> [Use; 512] {
     out
 }
 
-// A count of eight bytes, from its low and its high word.
-fn count_of(low: u32, high: u32) -> usize {
-    low as usize + 4294967296 * high as usize
-}
-
 // The held table of a case: its counts from the head, its entries from the images.
 fn table_of(head: &[u8], tasks: &[u8], uses: &[u8]) -> Table {
     Table {
         tasks: tasks_of(tasks),
-        task_count: count_of(table::word_at(head, 0), table::word_at(head, 4)),
+        task_count: long_of(table::word_at(head, 0), table::word_at(head, 4)) as usize,
         uses: uses_of(uses),
-        use_count: count_of(table::word_at(head, 8), table::word_at(head, 12)),
+        use_count: long_of(table::word_at(head, 8), table::word_at(head, 12)) as usize,
     }
 }
 

@@ -19,7 +19,9 @@ array-borrow-prefix-values : tie.Need-array-borrow-prefix-values
 array-borrow-prefix-values c = search needs
 
 slice-aggregate-settle : tie.Need-slice-aggregate-settle
-slice-aggregate-settle c = sym (length-take-le {A = ℕ} (c .before .before .before .before .before .before .args .shape .tasks) (replicate 32 0) (c .before .before .before .before .before .before .pre .tasks-most))
+slice-aggregate-settle c =
+    let entry = c .before .before .before .before .before .before in
+    sym (length-take-le {A = ℕ} (entry .args .shape .tasks) (replicate 32 0) (entry .pre .tasks-most))
 
 settle-requires : tie.Need-settle-requires
 settle-requires c κs =
@@ -51,14 +53,19 @@ returns c =
     (at-own-settings .own-settings .ensures) (at-settle .settle .last .1 .1 .1 .0) (at-settle .settle .last .1 .1 .1 .1 .0)
     (at-settle .settle .result) (at-settle .settle .ensures) (c .refused .result) (c .refused .ensures) (c .before .if1 .taken)
 
+all-bounded-requires : tie.Need-all-bounded-requires
+all-bounded-requires c κs =
+    let entry = c .before .before .before .before .before .before .before .before .before .before .before in
+    entry .pre .tasks-most
+
 returns-2 : tie.Need-returns-2
 returns-2 c =
-    let entry = c .before .before .before .before .before .before .before .before .before .before in
-    let at-own-settings = c .before .before .before .before .before .before .before .before in
-    let at-settle = c .before .before in
+    let entry = c .before .before .before .before .before .before .before .before .before .before .before .before in
+    let at-own-settings = c .before .before .before .before .before .before .before .before .before .before in
+    let at-settle = c .before .before .before .before in
     done-is (entry .args .bytes .now) (entry .args .shape) (entry .pre) (entry .args .allowance) (at-own-settings .own-settings .result)
     (at-own-settings .own-settings .ensures) (at-settle .settle .last .1 .1 .1 .0) (at-settle .settle .last .1 .1 .1 .1 .0)
-    (at-settle .settle .result) (at-settle .settle .ensures) _ refl (c .if1 .left)
+    (at-settle .settle .result) (at-settle .settle .ensures) _ (c .all-bounded .result) refl (c .all-bounded .ensures) (c .before .before .if1 .left)
 
 pub analyse-accepted-spec : {M : Type 1} → statement M
 analyse-accepted-spec =
@@ -71,4 +78,5 @@ analyse-accepted-spec =
     settle-requires
     refused-requires
     returns
+    all-bounded-requires
     returns-2)
