@@ -1,7 +1,8 @@
 // The sums of the largest in a section bag, found from the uses as they stand and their repeat counts: no bag is made.
 ghost use mathlib.Core.Path.{_≡_};
 ghost use Prim.Native.Nat.{_+_, _*_, _≤_, _<_};
-ghost use Rattle.equations.specs.Picking.{merged, tallied, timesOf, listed, lengthsOf, pickTo, sumsOf, Picking, Small};
+ghost use Rattle.equations.specs.Picking.{merged, tallied, listed, lengthsOf, pickTo, sumsOf, Picking, Small};
+ghost use Rattle.equations.specs.Working.{WorkerOf, Serves, ServesFrom, Bettered};
 use crate::Query;
 use crate::numbers::ceil_div;
 use crate::numbers::field;
@@ -25,11 +26,19 @@ pub struct Tally {
     pub more: u64,
 }
 
-// A search for the next pick: for the length t, below a length, with the best so far.
+// The task whose jobs were last worked out: its place, its priority and its jobs. Before the first, the priority is 0.
+pub struct Worker {
+    pub place: usize,
+    pub priority: u8,
+    pub jobs: u64,
+}
+
+// A search for the next pick: for the length t, below a length, with the best so far and the last worker.
 pub struct Search {
     pub length: u64,
     pub below: u64,
     pub best: Pick,
+    pub worker: Worker,
 }
 
 // Σ(X) and Σ(X + 1).
@@ -75,17 +84,25 @@ fn take(tally: Tally, x: u64, pick: Pick) -> Tally
     }
 }
 
-// How often the bag for the length t holds the length of use k, where it is of the middle set: N times the jobs of its task.
-fn times_of(bytes: &[u8], vector: &[u64], query: Query, t: u64, k: usize) -> u64
+// The worker of use k: the last one where it is of the same task, else the first of its priority from there on.
+fn worker_of(bytes: &[u8], vector: &[u64], query: Query, t: u64, last: Worker, k: usize) -> Worker
     requires { ⌜ Picking (now bytes) (now vector) query t ⌝ }
     requires { ⌜ k < query .shape .uses ⌝ }
-    ensures { λ r. ⌜ (r ≡ timesOf (now (bytes .entry)) (now (vector .entry)) (query .shape) t k) × (r ≤ 510000000) ⌝ }
+    requires { ⌜ Serves (now bytes) (now vector) (query .shape) t k last ⌝ }
+    ensures { λ r. ⌜ WorkerOf (now (bytes .entry)) (now (vector .entry)) (query .shape) t k r ⌝ }
 {
     let shape = query.shape;
-    let at = shape.uses_at + 8 * k;
-    let user = place_of(bytes, shape.tasks, 0, byte_at(bytes, at + 1));
-    let jobs = ceil_div(t + vector[user], field(bytes, 20 * user + 16));
-    wide(byte_at(bytes, at + 3)) * jobs
+    let priority = byte_at(bytes, shape.uses_at + 8 * k + 1);
+    if priority == last.priority {
+        return last;
+    }
+    let place = place_of(bytes, shape.tasks, last.place, priority);
+    let jobs = ceil_div(t + vector[place], field(bytes, 20 * place + 16));
+    Worker {
+        place,
+        priority,
+        jobs,
+    }
 }
 
 // Use k of the middle set against what is picked so far: its repeats are worked out only where its length matters and its ceiling reaches.
@@ -96,27 +113,34 @@ fn better(
     query: Query,
     search: Search,
     k: usize,
-) -> Pick
+) -> Search
     requires { ⌜ Picking (now bytes) (now vector) query (search .length) ⌝ }
     requires { ⌜ (query .first ≤ k) × (k < query .end) × (search .best .times ≤ 300000000000) ⌝ }
-    ensures { λ r. ⌜ r ≡ merged (search .below) (search .best) (lengthsOf (now (bytes .entry)) (query .shape) k) (listed (now (bytes .entry)) (now (ceilings .entry)) (now (vector .entry)) query (search .length) k) ⌝ }
+    requires { ⌜ ServesFrom (now bytes) (now vector) (query .shape) (search .length) k (search .worker) ⌝ }
+    ensures { λ r. ⌜ Bettered (now (bytes .entry)) (now (ceilings .entry)) (now (vector .entry)) query search k r ⌝ }
 {
     let shape = query.shape;
     let best = search.best;
     let at = shape.uses_at + 8 * k;
     let length = field(bytes, at + 4);
     if search.below <= length {
-        return best;
+        return search;
     }
     if length < best.length {
-        return best;
+        return search;
     }
     let resource = index(byte_at(bytes, at + 2));
     if ceilings[resource] < query.priority {
-        return best;
+        return search;
     }
-    let times = times_of(bytes, vector, query, search.length, k);
-    merge(search.below, best, length, times)
+    let worker = worker_of(bytes, vector, query, search.length, search.worker, k);
+    let times = wide(byte_at(bytes, at + 3)) * worker.jobs;
+    Search {
+        length: search.length,
+        below: search.below,
+        best: merge(search.below, best, length, times),
+        worker,
+    }
 }
 
 // The next shorter length in the bag.
@@ -133,21 +157,25 @@ fn next_pick(
     ensures { λ r. ⌜ r ≡ pickTo (lengthsOf (now (bytes .entry)) (query .shape)) (listed (now (bytes .entry)) (now (ceilings .entry)) (now (vector .entry)) query t) below (query .shape .uses) ⌝ }
 {
     let end = query.end;
-    let mut best = Pick {
-        length: 0,
-        times: 0,
+    let mut search = Search {
+        length: t,
+        below,
+        best: Pick {
+            length: 0,
+            times: 0,
+        },
+        worker: Worker {
+            place: 0,
+            priority: 0,
+            jobs: 0,
+        },
     };
     let mut k = query.first;
     while k < end {
-        let search = Search {
-            length: t,
-            below,
-            best,
-        };
-        best = better(bytes, ceilings, vector, query, search, k);
+        search = better(bytes, ceilings, vector, query, search, k);
         k += 1;
     }
-    best
+    search.best
 }
 
 // Σ(X) and Σ(X + 1) of the bag, from one picking.
