@@ -1,0 +1,97 @@
+-- What the searches over the places below a number find.
+use mathlib.Core.Path.{_≡_, refl}
+use mathlib.Core.Bool.{Bool, true, false, _&&_, _||_}
+use Prim.Native.Nat.{ℕ, zero, suc, _≤_, _<_, max}
+use native.Mathlib.Nat.{le-refl}
+use native.Mathlib.Omega.{arith}
+use native.Mathlib.Decide.{ℕ-discrete}
+use lib.Dec.{ltb}
+use borrow.Author.Tests.{ltb-true, ltb-false}
+use Rattle.protocol.specs.Searches.{Place, nowhere, at, orElse, ifHere, first, beats, best, all, some, largest}
+use Rattle.protocol.proofs.Testing.{impossible, true-and}
+
+-- what holds below k and at k holds below the next
+one-place-more : (Q : ℕ → Type 0) (k : ℕ) → ((j : ℕ) → j < k → Q j) → Q k → (j : ℕ) → j < suc k → Q j
+one-place-more Q k h q j lt = go (ℕ-discrete j k)
+  where
+    go : Dec (j ≡ k) → Q j
+    go (yes e) = rw e q
+    go (no ne) = h j (omega arith)
+
+-- ---- the first
+
+-- the place that is found lies below n and passes the test
+pub first-found : (test : ℕ → Bool) (n i : ℕ) → first test n ≡ at i → (i < n) × (test i ≡ true)
+unfolding first
+first-found test zero i e = absurd (impossible cc)
+first-found test (suc k) i e = go (first test k) (test k) refl (first-found test k) e
+  where
+    go : (p : Place) (b : Bool) → test k ≡ b → ((i : ℕ) → p ≡ at i → (i < k) × (test i ≡ true)) → orElse p (ifHere b k) ≡ at i
+        → (i < suc k) × (test i ≡ true)
+    go nowhere true t h e = let q : k ≡ i = cc in (omega arith, rw (← q) t)
+    go nowhere false t h e = absurd (impossible cc)
+    go (at j) b t h e = let w = h i e in (omega arith, w .1)
+
+-- ---- the best
+
+-- Of the places below n this one passes the test, and none that passes has a larger number; or none passes.
+abbrev pub Best : (ℕ → Bool) → (ℕ → ℕ) → ℕ → Place → Type 0
+Best test f n nowhere = (j : ℕ) → j < n → test j ≡ true → ⊥
+Best test f n (at i) = (i < n) × (test i ≡ true) × ((j : ℕ) → j < n → test j ≡ true → f j ≤ f i)
+
+-- `best` finds such a place
+pub best-found : (test : ℕ → Bool) (f : ℕ → ℕ) (n : ℕ) → Best test f n (best test f n)
+unfolding best
+best-found test f zero = λ j lt e. omega arith
+best-found test f (suc k) = go (best test f k) (test k) refl (best-found test f k)
+  where
+    beat : (i : ℕ) (b : Bool) → ltb (f i) (f k) ≡ b → test k ≡ true → Best test f k (at i) → Best test f (suc k) (orElse (ifHere b k) (at i))
+    beat i true t e h = (
+      omega arith,
+      e,
+      one-place-more (λ j. test j ≡ true → f j ≤ f k) k (λ j lt d. omega (arith, h .2 j lt d, ltb-true (f i) (f k) t)) (λ d. le-refl (f k)),
+    )
+    beat i false t e h =
+        (omega (arith, h .0), h .1, one-place-more (λ j. test j ≡ true → f j ≤ f i) k (h .2) (λ d. ltb-false (f i) (f k) t))
+
+    go : (p : Place) (b : Bool) → test k ≡ b → Best test f k p → Best test f (suc k) (orElse (ifHere (b && beats f k p) k) p)
+    go nowhere true t h =
+        (omega arith, t, one-place-more (λ j. test j ≡ true → f j ≤ f k) k (λ j lt d. absurd (h j lt d)) (λ d. le-refl (f k)))
+    go nowhere false t h = one-place-more (λ j. test j ≡ true → ⊥) k h (λ d. impossible cc)
+    go (at i) true t h = beat i (ltb (f i) (f k)) refl t h
+    go (at i) false t h =
+        (omega (arith, h .0), h .1, one-place-more (λ j. test j ≡ true → f j ≤ f i) k (h .2) (λ d. absurd (impossible cc)))
+
+-- ---- the largest
+
+-- the largest reaches what one of the numbers reaches
+pub largest-reaches : (f : ℕ → ℕ) (n i : ℕ) {x : ℕ} → i < n → x ≤ f i → x ≤ largest f n
+unfolding largest
+largest-reaches f zero i lt le = omega arith
+largest-reaches f (suc k) i {x} lt le =
+    one-place-more (λ j. x ≤ f j → x ≤ max (largest f k) (f k)) k (λ j h d. omega (arith, largest-reaches f k j h d)) (λ d. omega arith) i lt le
+
+-- what no number is above, the largest is not above
+pub largest-below : (f : ℕ → ℕ) (n b : ℕ) → ((i : ℕ) → i < n → f i ≤ b) → largest f n ≤ b
+unfolding largest
+largest-below f zero b h = omega arith
+largest-below f (suc k) b h = omega (arith, largest-below f k b (λ i lt. h i (omega arith)), h k (omega arith))
+
+-- ---- all, and some
+
+-- where each passes all pass
+pub all-true : (test : ℕ → Bool) (n : ℕ) → ((i : ℕ) → i < n → test i ≡ true) → all test n ≡ true
+unfolding all
+all-true test zero h = refl
+all-true test (suc k) h = true-and (all-true test k (λ i lt. h i (omega arith))) (h k (omega arith))
+
+-- where one passes some pass
+pub some-true : (test : ℕ → Bool) (n i : ℕ) → i < n → test i ≡ true → some test n ≡ true
+unfolding some
+some-true test zero i lt e = absurd (omega arith)
+some-true test (suc k) i lt e = go (some test k) (ℕ-discrete i k) (some-true test k i)
+  where
+    go : (b : Bool) → Dec (i ≡ k) → (i < k → test i ≡ true → b ≡ true) → b || test k ≡ true
+    go true d more = refl
+    go false (yes q) more = rw (← q) e
+    go false (no ne) more = absurd (let z = more (omega arith) e in impossible cc)

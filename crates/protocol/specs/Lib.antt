@@ -1,0 +1,12 @@
+pub mod Tasks
+pub mod Searches
+pub mod State
+pub mod Running
+pub mod Fit
+pub mod Checks
+pub mod Acting
+pub mod Step
+pub mod Accepted
+pub mod Trace
+pub mod ShortWaits
+pub mod Numbers
