@@ -1,14 +1,14 @@
 // Cases that analyse a table: what is printed are the lines of the bounds program.
-use crate::input::filled;
-use crate::input::front;
-use crate::input::long_of;
-use crate::input::short_at;
-use crate::output::end_line;
-use crate::output::put;
-use crate::output::put_refusal;
-use crate::output::put_text;
 use analysis::Analysis;
 use analysis::TaskAnswer;
+use harness::input::filled;
+use harness::input::front;
+use harness::input::long_of;
+use harness::input::short_at;
+use harness::output::end_line;
+use harness::output::put;
+use harness::output::put_refusal;
+use harness::output::put_text;
 use table::Task;
 
 // Prints what a task is answered.

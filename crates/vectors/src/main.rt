@@ -1,15 +1,15 @@
 // Runs the cases of data/tables through the proved crates and prints one line for each. second/README.md has the formats.
 mod analysing;
-mod input;
-mod output;
 mod reading;
 mod sums;
 mod writing;
 
+use harness::input::filled;
+
 // Runs one case and answers whether it was whole: false at the end of the input, and where what stands there is no case.
 fn run_case(fd: i32) -> bool {
     let mut byte = [0u8; 1];
-    if !input::filled(fd, &mut byte) {
+    if !filled(fd, &mut byte) {
         return false;
     }
     let kind = byte[0];

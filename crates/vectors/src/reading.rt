@@ -1,11 +1,12 @@
 // Cases that read a table.
-use crate::input::filled;
-use crate::input::front;
-use crate::input::short_at;
-use crate::output::end_line;
-use crate::output::put;
-use crate::output::put_refusal;
 use crate::sums;
+use harness::input::filled;
+use harness::input::front;
+use harness::input::short_at;
+use harness::output::end_line;
+use harness::output::put;
+use harness::output::put_refusal;
+use harness::sums::with_bytes;
 use table::Reading;
 
 // Prints what a table is read as.
@@ -29,7 +30,7 @@ fn put_line(bytes: &[u8], priority: u8) {
     put_reading(reading);
     put(b" held ", sums::of_table(table));
     put(b" record ", record.len() as u64);
-    put(b" ", sums::of_bytes(record));
+    put(b" ", with_bytes(0, record));
     end_line();
 }
 

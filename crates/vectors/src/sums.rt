@@ -1,12 +1,8 @@
-// Checksums: h starts at 0, and each number x makes it (h * 257 + x) % 1000003.
+// Checksums of held tables.
+use harness::sums::mixed;
 use held::Table;
 use table::Task;
 use table::Use;
-
-// The checksum after one number more. Both are reduced first, so that the product fits whatever they are.
-fn mixed(h: u64, x: u64) -> u64 {
-    (h % 1000003 * 257 + x % 1000003) % 1000003
-}
 
 // The checksum after the fields of a task.
 fn with_task(h: u64, task: Task) -> u64 {
@@ -56,15 +52,4 @@ pub fn of_table(table: Table) -> u64 {
     let h = mixed(0, table.task_count as u64);
     let h = mixed(h, table.use_count as u64);
     with_uses(with_tasks(h, tasks), uses)
-}
-
-// The checksum of bytes.
-pub fn of_bytes(bytes: &[u8]) -> u64 {
-    let mut sum = 0;
-    let mut i = 0;
-    while i < bytes.len() {
-        sum = mixed(sum, table::byte_at(bytes, i) as u64);
-        i += 1;
-    }
-    sum
 }

@@ -1,13 +1,13 @@
 // Cases that write a held table.
-use crate::input::byte_at;
-use crate::input::filled;
-use crate::input::front;
-use crate::input::long_of;
-use crate::input::short_at;
-use crate::output::end_line;
-use crate::output::put;
-use crate::output::put_refusal;
-use crate::sums;
+use harness::input::byte_at;
+use harness::input::filled;
+use harness::input::front;
+use harness::input::long_of;
+use harness::input::short_at;
+use harness::output::end_line;
+use harness::output::put;
+use harness::output::put_refusal;
+use harness::sums::with_bytes;
 use held::Table;
 use held::Writing;
 use table::Task;
@@ -65,7 +65,7 @@ fn put_writing(writing: Writing) {
 // Writes a table to a buffer and prints the line of that.
 fn put_line(table: Table, buffer: &mut [u8]) {
     put_writing(held::write(table, buffer));
-    put(b" buffer ", sums::of_bytes(buffer));
+    put(b" buffer ", with_bytes(0, buffer));
     end_line();
 }
 

@@ -1,18 +1,23 @@
--- `vectors::sums::of_bytes` meets its contract.
+-- `calls::state_sum::with_part` meets its contract.
 use Prim.Native.Nat.{_-_}
 use borrow.Author.Needs.{needs}
-use lib.ListN.{length}
-use Rattle.vectors.proofs.sums.of_bytes.Statement.{statement}
-use Rattle.vectors.proofs.sums.of_bytes.Tie as tie
+use Rattle.calls.proofs.state_sum.with_part.Statement.{statement}
+use Rattle.calls.proofs.state_sum.with_part.Tie as tie
 
 abbrev Inv-loop : tie.InvT-loop
-Inv-loop bytes sum₀ i₀ sum i = Unit {0}
+Inv-loop h bytes at count sum₀ i₀ sum i = Unit {0}
 
 abbrev μ-loop : tie.MeasureT-loop
-μ-loop bytes sum₀ i₀ sum i = length bytes - i
+μ-loop h bytes at count sum₀ i₀ sum i = count - i
 
 loop-holds : tie.Need-loop-holds Inv-loop μ-loop
 loop-holds c = search needs
+
+cast-byte-at : tie.Need-cast-byte-at Inv-loop μ-loop
+cast-byte-at c = search needs
+
+add-byte-at : tie.Need-add-byte-at Inv-loop μ-loop
+add-byte-at c = search needs
 
 byte-at-requires : tie.Need-byte-at-requires Inv-loop μ-loop
 byte-at-requires c κs = search needs
@@ -35,13 +40,15 @@ loop-again c = search needs
 returns : tie.Need-returns Inv-loop μ-loop
 returns c = search needs
 
-pub of-bytes-spec : {M : Type 1} → statement M
-of-bytes-spec =
+pub with-part-spec : {M : Type 1} → statement M
+with-part-spec =
     tie.close
     (tie.spec
     Inv-loop
     μ-loop
     loop-holds
+    cast-byte-at
+    add-byte-at
     byte-at-requires
     cast-mixed
     mixed-requires

@@ -1,0 +1,5 @@
+pub mod Numbers
+pub mod Turns
+pub mod Counting
+pub mod Moving
+pub mod Opened

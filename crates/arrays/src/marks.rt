@@ -1,0 +1,110 @@
+// The numbers that stand for a status, a serial or a count, one at a time.
+ghost use mathlib.Core.Path.{_≡_};
+ghost use mathlib.Core.Bool.{not};
+ghost use Prim.Native.Nat.{_+_, _%_, _≤_, _<_, max};
+ghost use lib.Dec.{ltb};
+ghost use Rattle.protocol.specs.Searches.{only};
+ghost use Rattle.protocol.specs.State.{following, isNone, isReady, isAsleep};
+ghost use Rattle.protocol.specs.Acting.{admittedBy};
+ghost use Rattle.arrays.specs.View.{statusOf, ownNumber};
+ghost use Rattle.arrays.specs.Stores.{wokenNumber};
+
+// A byte as a place.
+pub fn wide(byte: u8) -> usize
+    ensures { λ r. ⌜ (r ≡ byte) × (r ≤ 255) ⌝ }
+{
+    byte as usize
+}
+
+// The larger of two.
+pub fn larger(a: u8, b: u8) -> u8
+    ensures { λ r. ⌜ r ≡ max a b ⌝ }
+{
+    if a < b {
+        return b;
+    }
+    a
+}
+
+// A number where the test passes, else 0.
+pub fn only_if(test: bool, x: u8) -> u8
+    ensures { λ r. ⌜ r ≡ only test x ⌝ }
+{
+    if test {
+        return x;
+    }
+    0
+}
+
+// A count where the test passes, else 0.
+pub fn count_if(test: bool, n: usize) -> usize
+    ensures { λ r. ⌜ r ≡ only test n ⌝ }
+{
+    if test {
+        return n;
+    }
+    0
+}
+
+// Whether a job is ready.
+pub fn is_ready(state: u8) -> bool
+    ensures { λ r. ⌜ r ≡ isReady (statusOf state) ⌝ }
+{
+    state == 1
+}
+
+// Whether a job is asleep.
+pub fn is_asleep(state: u8) -> bool
+    ensures { λ r. ⌜ r ≡ isAsleep (statusOf state) ⌝ }
+{
+    state == 3
+}
+
+// Whether there is a job.
+pub fn is_unfinished(state: u8) -> bool
+    ensures { λ r. ⌜ r ≡ not (isNone (statusOf state)) ⌝ }
+{
+    (0 < state) & (state <= 3)
+}
+
+// Ready, 1, for a job above the ceiling, else waiting, 2.
+pub fn admitted(ceiling: u8, priority: u8) -> u8
+    ensures { λ r. ⌜ r ≡ ownNumber (admittedBy (ltb ceiling priority)) ⌝ }
+{
+    if ceiling < priority {
+        return 1;
+    }
+    2
+}
+
+// A waiting job above the ceiling is ready, and any other stays as it is.
+pub fn woken(state: u8, ceiling: u8, priority: u8) -> u8
+    ensures { λ r. ⌜ r ≡ wokenNumber ceiling priority state ⌝ }
+{
+    if (state == 2) & (ceiling < priority) {
+        return 1;
+    }
+    state
+}
+
+// The serial that follows: after 65,535 comes 0.
+pub fn next_serial(serial: u16) -> u16
+    ensures { λ r. ⌜ r ≡ following serial ⌝ }
+{
+    std::num::wrapping_add_u16(serial, 1)
+}
+
+// The serial before the next one: that of the task's latest job.
+pub fn last_serial(next: u16) -> u16
+    ensures { λ r. ⌜ r ≡ (next + 65535) % 65536 ⌝ }
+{
+    std::num::wrapping_add_u16(next, 65535)
+}
+
+// One more, where a bound lies above.
+pub fn one_more(x: u8, bound: u8) -> u8
+    requires { ⌜ x < bound ⌝ }
+    ensures { λ r. ⌜ r ≡ x + 1 ⌝ }
+{
+    x + 1
+}

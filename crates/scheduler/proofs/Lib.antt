@@ -1,0 +1,17 @@
+pub mod Sizes
+pub mod Written
+pub mod Settles
+pub mod Storing
+pub mod Viewing
+pub mod Ends
+pub mod Asking
+pub mod Doing
+pub mod Opening
+pub mod Removing
+pub mod Closing
+pub mod Reach
+pub mod Following
+pub mod Loading
+pub mod Events
+pub mod Beginning
+pub mod Theorems

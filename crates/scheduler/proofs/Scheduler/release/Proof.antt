@@ -1,0 +1,225 @@
+-- `scheduler::Scheduler::release` meets its contract.
+use borrow.Author.Needs.{needs}
+use mathlib.Core.Path.{_∙_}
+use native.Mathlib.Omega.{arith}
+use Rattle.protocol.specs.Checks.{release}
+use Rattle.arrays.specs.Rulings.{releasing}
+use Rattle.scheduler.specs.View.{entryOf}
+use Rattle.scheduler.proofs.Sizes.{sized}
+use Rattle.scheduler.proofs.Viewing.{Fit, fit-passed}
+use Rattle.scheduler.proofs.Ends.{unfit-answered, refused-replied, granted-replied}
+use Rattle.scheduler.proofs.Asking.{Found, asked, Grants, grants, release-found, releasing-ruled}
+use Rattle.scheduler.proofs.Doing.{release-done}
+use Rattle.scheduler.proofs.Scheduler.release.Statement.{statement}
+use Rattle.scheduler.proofs.Scheduler.release.Tie as tie
+
+-- where the call begins
+abbrev begun : tie.Else1 → tie.Start
+begun c = c .before .before .before .before .before .before .before .before .before .before
+
+-- where the state is found fit
+abbrev entered : tie.After-release-rule → tie.Else1
+entered c = c .before .before .before .before .before .before
+
+-- the state is fit
+fitting : (c : tie.Else1) → Fit (begun c .args .t1)
+fitting c =
+    let at-tasks-fit = c .before .before .before .before .before .before in
+    let entry = at-tasks-fit .before .before .before .before in
+    fit-passed (entry .args .t1) (at-tasks-fit .tasks-fit .result) (c .before .sections-fit .result) (at-tasks-fit .tasks-fit .ensures)
+    (c .before .sections-fit .ensures) (c .if1 .left)
+
+-- what the checks come to
+ruling : (c : tie.After-release-rule) → Found (begun (entered c) .args .t1) (release (begun (entered c) .args .priority)) 11
+    (c .before .before .before .place-of-priority .result) (releasing (entryOf (begun (entered c) .args .t1)))
+ruling c =
+    let at-place-of-priority = c .before .before .before in
+    let fitted = at-place-of-priority .before .before .before in
+    let entry = fitted .before .before .before .before .before .before .before .before .before .before in
+    release-found (sized (entry .args .t1) (entry .good .0)) (fitting fitted) (at-place-of-priority .place-of-priority .ensures)
+
+-- the call is granted
+granting : (c : tie.Else2) → Grants (begun (entered (c .before)) .args .t1) (release (begun (entered (c .before)) .args .priority))
+    (c .before .before .before .before .place-of-priority .result)
+granting c =
+    let at-sections-fit = c .before .before .before .before .before .before .before .before in
+    let entry = at-sections-fit .before .before .before .before .before .before .before .before .before in
+    grants (ruling (c .before)) (omega arith) (releasing-ruled (entryOf (entry .args .t1))) (c .before .release-rule .ensures)
+    (c .if2 .left)
+
+tasks-fit-requires : tie.Need-tasks-fit-requires
+tasks-fit-requires c κs = search needs
+
+sections-fit-requires : tie.Need-sections-fit-requires
+sections-fit-requires c κs = search needs
+
+unfit-requires : tie.Need-unfit-requires
+unfit-requires c κs = search needs
+
+returns : tie.Need-returns
+returns c =
+    let at-sections-fit = c .before .before in
+    let at-tasks-fit = at-sections-fit .before .before .before .before .before in
+    let entry = at-tasks-fit .before .before .before .before in
+    c .unfit .ensures ∙ unfit-answered (entry .args .t1) (release (entry .args .priority)) (at-tasks-fit .tasks-fit .result)
+    (at-sections-fit .sections-fit .result) (sized (entry .args .t1) (entry .good .0)) (at-tasks-fit .tasks-fit .ensures)
+    (at-sections-fit .sections-fit .ensures) (c .before .if1 .taken)
+
+place-of-priority-requires : tie.Need-place-of-priority-requires
+place-of-priority-requires c κs =
+    let fitted = c .before .before in
+    fitting fitted .few
+
+release-rule-requires : tie.Need-release-rule-requires
+release-rule-requires c κs = search needs
+
+refused-requires : tie.Need-refused-requires
+refused-requires c κs =
+    let fitted = c .before .before .before .before .before .before .before in
+    fitting fitted .few
+
+returns-2 : tie.Need-returns-2
+returns-2 c =
+    let ruled = c .before .before in
+    c .refused .ensures ∙ refused-replied (asked (ruling ruled) (ruled .release-rule .ensures)) (c .before .if2 .taken)
+
+last-open-requires : tie.Need-last-open-requires
+last-open-requires c κs =
+    let fitted = c .before .before .before .before .before .before .before .before .before in
+    fitting fitted .room
+
+ceiling-requires : tie.Need-ceiling-requires
+ceiling-requires c κs =
+    let at-place-of-priority = c .before .before .before .before .before .before .before .before .before .before in
+    let fitted = at-place-of-priority .before .before .before in
+    fitting fitted .few
+
+element-copy-out-admitted : tie.Need-element-copy-out-admitted
+element-copy-out-admitted c =
+    let granted = c .before .before .before .before .before .before .before in
+    granting granted .place
+
+admitted-requires : tie.Need-admitted-requires
+admitted-requires c κs = search needs
+
+element-write-self : tie.Need-element-write-self
+element-write-self c =
+    let granted = c .before .before .before .before .before .before .before .before .before in
+    granting granted .place
+
+element-write-self-2 : tie.Need-element-write-self-2
+element-write-self-2 c =
+    let granted = c .before .before .before .before .before .before .before .before .before in
+    granting granted .place
+
+element-write-self-3 : tie.Need-element-write-self-3
+element-write-self-3 c =
+    let granted = c .before .before .before .before .before .before .before .before .before in
+    granting granted .place
+
+mul-next-serial : tie.Need-mul-next-serial
+mul-next-serial c =
+    let granted = c .before .before .before .before .before .before .before .before .before in
+    omega (arith, granting granted .place)
+
+element-copy-out-next-serial : tie.Need-element-copy-out-next-serial
+element-copy-out-next-serial c =
+    let granted = c .before .before .before .before .before .before .before .before .before in
+    granting granted .place
+
+next-serial-requires : tie.Need-next-serial-requires
+next-serial-requires c κs = search needs
+
+mul-self : tie.Need-mul-self
+mul-self c =
+    let granted = c .before .before .before .before .before .before .before .before .before .before .before in
+    omega (arith, granting granted .place)
+
+element-write-self-4 : tie.Need-element-write-self-4
+element-write-self-4 c =
+    let granted = c .before .before .before .before .before .before .before .before .before .before .before in
+    granting granted .place
+
+clear-requires : tie.Need-clear-requires
+clear-requires c κs =
+    let granted = c .before .before .before .before .before .before .before .before .before .before .before .before in
+    (granting granted .place, granting granted .sized .opened)
+
+system-priority-requires : tie.Need-system-priority-requires
+system-priority-requires c κs =
+    let at-ceiling = c .before .before .before .before .before .before .before .before .before .before in
+    let at-place-of-priority = at-ceiling .before .before .before .before .before .before .before .before .before .before .before in
+    let fitted = at-place-of-priority .before .before .before in
+    fitting fitted .few
+
+running-place-requires : tie.Need-running-place-requires
+running-place-requires c κs =
+    let at-admitted = c .before .before .before .before .before .before .before .before .before .before .before .before in
+    let at-release-rule = at-admitted .before .before .before .before .before .before .before .before .before .before in
+    let fitted = at-release-rule .before .before .before .before .before .before in
+    fitting fitted .few
+
+number-at-requires : tie.Need-number-at-requires
+number-at-requires c κs = search needs
+
+start-requires : tie.Need-start-requires
+start-requires c κs = search needs
+
+returns-3 : tie.Need-returns-3
+returns-3 c =
+    let at-number-at = c .before .before in
+    let at-running-place = at-number-at .before .before .before .before in
+    let at-system-priority = at-running-place .before .before .before .before in
+    let at-clear = at-system-priority .before .before .before .before .before in
+    let at-next-serial = at-clear .before .before in
+    let at-admitted = at-next-serial .before .before in
+    let at-ceiling = at-admitted .before .before in
+    let at-last-open = at-ceiling .before .before .before .before in
+    let granted = at-last-open .before .before .before in
+    granted-replied {runs = at-running-place .running-place .result}
+    (release-done (granting granted) (record {
+      level = at-ceiling .ceiling .result;
+      last = at-last-open .last-open .result;
+      opens
+          = at-last-open .last-open .ensures;
+      tops = at-ceiling .ceiling .ensures;
+      number = at-admitted .admitted .ensures;
+    })
+    (at-next-serial .next-serial .ensures) (at-clear .clear .ensures))
+    (record {
+      level = at-system-priority .system-priority .ensures;
+      place = at-running-place .running-place .ensures;
+      number
+          = at-number-at .number-at .ensures;
+    }) (c .start .ensures)
+
+pub release-spec : {M : Type 1} → statement M
+release-spec =
+    tie.close
+    (tie.spec
+    tasks-fit-requires
+    sections-fit-requires
+    unfit-requires
+    returns
+    place-of-priority-requires
+    release-rule-requires
+    refused-requires
+    returns-2
+    last-open-requires
+    ceiling-requires
+    element-copy-out-admitted
+    admitted-requires
+    element-write-self
+    element-write-self-2
+    element-write-self-3
+    mul-next-serial
+    element-copy-out-next-serial
+    next-serial-requires
+    mul-self
+    element-write-self-4
+    clear-requires
+    system-priority-requires
+    running-place-requires
+    number-at-requires
+    start-requires
+    returns-3)

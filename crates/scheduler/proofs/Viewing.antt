@@ -1,0 +1,100 @@
+-- What the scans answer is the machine's, on the whole view.
+use mathlib.Core.Path.{_≡_, refl, sym, subst, _∙_}
+use mathlib.Core.List.{[]}
+use mathlib.Core.Bool.{Bool, true, false, not, _&&_}
+use Prim.Native.Nat.{ℕ, zero, suc, _≤_, _<_}
+use native.Mathlib.Omega.{arith}
+use native.Mathlib.Decide.{ℕ-discrete}
+use lib.Dec.{ltb, leb}
+use lib.ListN.{length}
+use borrow.Author.Tests.{ltb-true, leb-true, lt-ltb, le-ltb, not-false}
+use Rattle.protocol.specs.Tasks.{priority, setting}
+use Rattle.protocol.specs.Searches.{Place, nowhere, at, best, all}
+use Rattle.protocol.specs.Running.{ceiling, systemPriority, systemCeiling, aboveSystem, running}
+use Rattle.protocol.specs.Fit.{named, fit}
+use Rattle.protocol.specs.Step.{numberAt}
+use Rattle.protocol.proofs.Testing.{and-true}
+use Rattle.arrays.specs.View.{entriesBy, lastOpen, ranked, users, jobs, numberIn, eligibleAt, settingBelow, placeOf}
+use Rattle.arrays.proofs.Opened.{sections-length, fit-tested, last-ceiling}
+use Rattle.scheduler.specs.declared.Scheduler.{Scheduler}
+use Rattle.scheduler.specs.View.{tableOf, entryOf, stateOf}
+
+-- ---- places in the code
+
+-- below 32 a place is one
+pub at-place : (i : ℕ) → i < 32 → placeOf i ≡ at i
+at-place i lt = rw (lt-ltb i 32 lt)
+
+-- from 32 on it is none
+pub no-place : (i : ℕ) → 32 ≤ i → placeOf i ≡ nowhere
+no-place i le = rw (le-ltb i 32 le)
+
+-- ---- the scans
+
+module _ (s : Scheduler) where
+  -- the running job
+  pub running-view : (system runs : ℕ) → system ≡ systemPriority (ranked (s .tasks) [] (s .settings)) (jobs (s .states) (s .started))
+      → placeOf runs ≡ best (eligibleAt (s .states) (s .priorities) system) (numberIn (s .priorities)) (s .tasks)
+      → placeOf runs ≡ running aboveSystem (tableOf s) (entryOf s)
+  unfolding running systemPriority
+  running-view system runs e = subst (λ x. placeOf runs ≡ best (eligibleAt (s .states) (s .priorities) x) (numberIn (s .priorities)) (s .tasks)) e
+
+  -- its number
+  pub number-view : (p : Place) → numberAt (ranked 0 (s .priorities) []) (entriesBy [] [] [] [] [] (s .serials)) p
+      ≡ numberAt (tableOf s) (entryOf s) p
+  number-view nowhere = refl
+  number-view (at i) = refl
+
+  -- the system ceiling
+  pub ceiling-view : ceiling (users (s .tasks) (s .priorities) (s .uses)) (lastOpen (s .resources) (s .sections))
+      ≡ systemCeiling (tableOf s) (stateOf s)
+  ceiling-view = last-ceiling (s .tasks) (s .priorities) (s .settings) (s .most) (s .uses) (s .places) (s .resources) (s .sections)
+
+  -- whether the state is fit
+  pub fit-view : (a b : Bool) → a ≡ leb (s .tasks) 32 && all (settingBelow (s .settings) (s .priorities)) (s .tasks)
+      → b ≡ leb (s .tasks) 32 && (leb (s .sections) 16 && named (users (s .tasks) [] (s .uses)) (stateOf s .sections))
+      → a && b ≡ fit (tableOf s) (stateOf s)
+  fit-view a b e f =
+      rw (e, f) (sym (fit-tested (s .tasks) (s .priorities) (s .settings) (s .most) (s .uses) (s .places) (s .resources) (entryOf s) (s .sections)))
+
+-- ---- a fit state
+
+-- what all pass each passes
+all-at : (test : ℕ → Bool) (n i : ℕ) → all test n ≡ true → i < n → test i ≡ true
+unfolding all
+all-at test zero i e lt = absurd (omega arith)
+all-at test (suc k) i e lt = let w = and-true (all test k) (test k) e in go w (ℕ-discrete i k) (all-at test k i (w .0))
+  where
+    go : (all test k ≡ true) × (test k ≡ true) → Dec (i ≡ k) → (i < k → test i ≡ true) → test i ≡ true
+    go w (yes q) more = rw q (w .1)
+    go w (no ne) more = more (omega arith)
+
+-- A fit state has counts within the arrays, and settings below their priorities.
+pub record Fit (s : Scheduler) : Type 0 where
+  pub few : s .tasks ≤ 32
+  pub room : s .sections ≤ 16
+  pub below : (i : ℕ) → i < s .tasks → setting (tableOf s) i < priority (tableOf s) i
+  pub fits : fit (tableOf s) (stateOf s) ≡ true
+
+-- so says the machine's test
+pub fit-known : (s : Scheduler) → fit (tableOf s) (stateOf s) ≡ true → Fit s
+unfolding fit
+fit-known s e =
+    let T = tableOf s in
+    let open-sections = stateOf s .sections in
+    let under : ℕ → Bool = λ i. ltb (setting T i) (priority T i) in
+    let a = and-true (leb (s .tasks) 32) (all under (s .tasks) && (leb (length open-sections) 16 && named T open-sections)) e in
+    let b = and-true (all under (s .tasks)) (leb (length open-sections) 16 && named T open-sections) (a .1) in
+    let c = and-true (leb (length open-sections) 16) (named T open-sections) (b .1) in
+    record {
+      few = leb-true (s .tasks) 32 (a .0);
+      room = omega (arith, leb-true (length open-sections) 16 (c .0), sections-length (s .places) (s .resources) (s .sections));
+      below = λ i lt. ltb-true (setting T i) (priority T i) (all-at under (s .tasks) i (b .0) lt);
+      fits = e;
+    }
+
+-- so says the code's
+pub fit-passed : (s : Scheduler) (a b : Bool) → a ≡ leb (s .tasks) 32 && all (settingBelow (s .settings) (s .priorities)) (s .tasks)
+    → b ≡ leb (s .tasks) 32 && (leb (s .sections) 16 && named (users (s .tasks) [] (s .uses)) (stateOf s .sections))
+    → not (a && b) ≡ false → Fit s
+fit-passed s a b e f h = fit-known s (sym (fit-view s a b e f) ∙ not-false (a && b) h)

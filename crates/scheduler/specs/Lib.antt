@@ -1,0 +1,4 @@
+pub mod View
+pub mod Replies
+pub mod Fresh
+pub mod Driven
