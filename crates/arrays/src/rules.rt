@@ -2,9 +2,9 @@
 ghost use mathlib.Core.Path.{_≡_};
 ghost use mathlib.Core.List.{[]};
 ghost use lib.Dec.{ltb};
-ghost use Rattle.protocol.specs.Checks.{found};
+ghost use Rattle.protocol.specs.Checks.{found, releasing, locking, unlocking, suspending, completing};
 ghost use Rattle.arrays.specs.View.{tasksBy, entriesBy, users, jobs, holders, placeOf};
-ghost use Rattle.arrays.specs.Rulings.{refusalOf, releasing, locking, unlocking, suspending, completing};
+ghost use Rattle.arrays.specs.Rulings.{refusalOf};
 use crate::marks::is_unfinished;
 use crate::sections::count_at;
 

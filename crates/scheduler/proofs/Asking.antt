@@ -11,10 +11,10 @@ use Rattle.protocol.specs.Tasks.{Table}
 use Rattle.protocol.specs.Searches.{Place, nowhere, at, ifHere, first, best}
 use Rattle.protocol.specs.State.{Entry, holds, isNone}
 use Rattle.protocol.specs.Running.{systemPriority, aboveSystem, running}
-use Rattle.protocol.specs.Checks.{Call, release, resume, lock, unlock, suspend, complete, Ruling, refuse, grant, demand, found, numbered, checks}
+use Rattle.protocol.specs.Checks.{Call, release, resume, lock, unlock, suspend, complete, Ruling, refuse, grant, demand, found, numbered, checks, releasing, locking, unlocking, suspending, completing}
 use Rattle.protocol.proofs.Granted.{Granted, granted}
 use Rattle.arrays.specs.View.{ranked, jobs, numberIn, eligibleAt, ofPriority, ofNumber, sleeping, placeOf, passing}
-use Rattle.arrays.specs.Rulings.{refusalOf, releasing, locking, unlocking, suspending, completing}
+use Rattle.arrays.specs.Rulings.{refusalOf}
 use Rattle.arrays.proofs.Opened.{sections-length}
 use Rattle.scheduler.specs.declared.Scheduler.{Scheduler}
 use Rattle.scheduler.specs.View.{Sized, tableOf, entryOf, stateOf}

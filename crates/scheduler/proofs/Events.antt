@@ -11,11 +11,10 @@ use Rattle.protocol.specs.Searches.{Place, nowhere, at, first}
 use Rattle.protocol.specs.State.{Entry, State, isAsleep}
 use Rattle.protocol.specs.Running.{Rule, running}
 use Rattle.protocol.specs.Fit.{fit}
-use Rattle.protocol.specs.Checks.{Call, release, resume, lock, unlock, suspend, complete, Ruling, refuse, grant, demand, found, numbered}
+use Rattle.protocol.specs.Checks.{Call, release, resume, lock, unlock, suspend, complete, Ruling, refuse, grant, demand, found, numbered, releasing, locking, unlocking, suspending, completing}
 use Rattle.protocol.specs.Checks.{checked, checks, ruling}
 use Rattle.protocol.specs.Step.{answer, step}
 use Rattle.protocol.specs.Trace.{outcome}
-use Rattle.arrays.specs.Rulings.{releasing, locking, unlocking, suspending, completing}
 use Rattle.scheduler.specs.Driven.{eventIf}
 use Rattle.scheduler.proofs.Asking.{Ruled, releasing-ruled, locking-ruled, unlocking-ruled, suspending-ruled, completing-ruled}
 

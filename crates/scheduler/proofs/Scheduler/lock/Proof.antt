@@ -3,8 +3,7 @@ use borrow.Author.Needs.{needs}
 use lib.Dec.{ltb}
 use mathlib.Core.Path.{_∙_}
 use native.Mathlib.Omega.{arith}
-use Rattle.protocol.specs.Checks.{lock}
-use Rattle.arrays.specs.Rulings.{locking}
+use Rattle.protocol.specs.Checks.{lock, locking}
 use Rattle.scheduler.specs.View.{tableOf, entryOf}
 use Rattle.scheduler.proofs.Sizes.{sized}
 use Rattle.scheduler.proofs.Viewing.{Fit, fit-passed}

@@ -2,8 +2,7 @@
 use borrow.Author.Needs.{needs}
 use mathlib.Core.Path.{_∙_}
 use native.Mathlib.Omega.{arith}
-use Rattle.protocol.specs.Checks.{release}
-use Rattle.arrays.specs.Rulings.{releasing}
+use Rattle.protocol.specs.Checks.{release, releasing}
 use Rattle.scheduler.specs.View.{entryOf}
 use Rattle.scheduler.proofs.Sizes.{sized}
 use Rattle.scheduler.proofs.Viewing.{Fit, fit-passed}

@@ -2,8 +2,7 @@
 use borrow.Author.Needs.{needs}
 use mathlib.Core.Path.{_∙_}
 use native.Mathlib.Omega.{arith}
-use Rattle.protocol.specs.Checks.{suspend}
-use Rattle.arrays.specs.Rulings.{suspending}
+use Rattle.protocol.specs.Checks.{suspend, suspending}
 use Rattle.scheduler.specs.View.{tableOf, entryOf}
 use Rattle.scheduler.proofs.Sizes.{sized}
 use Rattle.scheduler.proofs.Viewing.{Fit, fit-passed}

@@ -4,8 +4,7 @@ use borrow.Author.Needs.{needs}
 use lib.Dec.{ltb}
 use mathlib.Core.Path.{ap, _∙_}
 use native.Mathlib.Omega.{arith}
-use Rattle.protocol.specs.Checks.{unlock}
-use Rattle.arrays.specs.Rulings.{unlocking}
+use Rattle.protocol.specs.Checks.{unlock, unlocking}
 use Rattle.scheduler.specs.View.{entryOf}
 use Rattle.scheduler.proofs.Sizes.{sized}
 use Rattle.scheduler.proofs.Viewing.{Fit, fit-passed}
