@@ -74,6 +74,19 @@ larger-allowance s a b l given = go (readTable s) given
     go (Refused f) n = refl
     go (Accepted h) n = within h n (decLe (totalOf s h) a)
 
+-- no answer is about more than 32 tasks
+pub tasks-most : (s : List ℕ) (allowance : ℕ) → analysed s allowance .tasks ≤ 32
+unfolding analysedAs
+tasks-most s allowance = go (readTable s) refl
+  where
+    within : (h : Shape) → h .tasks ≤ 32 → Dec (totalOf s h ≤ allowance) → analysedAs (Accepted h) s allowance .tasks ≤ 32
+    within h few (yes l) = rw (done-as s h allowance l) few
+    within h few (no l) = rw (spent-as s h allowance (omega arith)) (omega arith)
+
+    go : (r : Reading) → readTable s ≡ r → analysedAs r s allowance .tasks ≤ 32
+    go (Refused f) e = omega arith
+    go (Accepted h) e = within h (well-formed s h e .tasks-most) (decLe (totalOf s h) allowance)
+
 -- ---- the verdict and the answers
 
 bounded-none : (a : theory.Answer) → bounded a ≡ false → a ≡ theory.none

@@ -44,8 +44,7 @@ ruling c =
     (record {
       system = at-system-priority .system-priority .result;
       runs = at-running-place .running-place .result;
-      level
-          = at-system-priority .system-priority .ensures;
+      level = at-system-priority .system-priority .ensures;
       place = at-running-place .running-place .ensures;
       named = at-numbered .numbered .ensures;
     })
@@ -55,11 +54,8 @@ granting : (c : tie.Else2) → Grants (begun (entered (c .before)) .args .t1)
     (complete (begun (entered (c .before)) .args .job .priority) (begun (entered (c .before)) .args .job .serial))
     (c .before .before .before .before .numbered .result)
 granting c =
-    let at-system-priority = c .before .before .before .before .before .before .before .before .before .before .before .before in
-    let at-tasks-fit = at-system-priority .before .before .before .before .before .before .before .before .before .before .before in
-    let entry = at-tasks-fit .before .before .before .before in
-    grants (ruling (c .before)) (omega arith) (completing-ruled (entryOf (entry .args .t1))) (c .before .complete-rule .ensures)
-    (c .if2 .left)
+    grants (ruling (c .before)) (omega arith) (completing-ruled (entryOf (begun (entered (c .before)) .args .t1)))
+    (c .before .complete-rule .ensures) (c .if2 .left)
 
 tasks-fit-requires : tie.Need-tasks-fit-requires
 tasks-fit-requires c κs = search needs
@@ -96,10 +92,7 @@ complete-rule-requires : tie.Need-complete-rule-requires
 complete-rule-requires c κs = search needs
 
 refused-requires : tie.Need-refused-requires
-refused-requires c κs =
-    let at-system-priority = c .before .before .before .before .before .before .before .before .before .before .before .before in
-    let fitted = at-system-priority .before .before .before .before .before in
-    fitting fitted .few
+refused-requires c κs = ruling (c .before) .fits .few
 
 returns-2 : tie.Need-returns-2
 returns-2 c =
@@ -111,16 +104,13 @@ element-write-self c = granting c .place
 
 system-priority-requires-2 : tie.Need-system-priority-requires-2
 system-priority-requires-2 c κs =
-    let at-running-place = c .before .before .before .before .before .before .before .before .before .before .before .before in
-    let fitted = at-running-place .before .before .before .before .before .before .before .before .before in
-    fitting fitted .few
+    let granted = c .before .before .before .before in
+    granting granted .fits .few
 
 running-place-requires-2 : tie.Need-running-place-requires-2
 running-place-requires-2 c κs =
-    let at-numbered = c .before .before .before .before .before .before .before .before .before .before .before .before in
-    let at-system-priority = at-numbered .before .before .before .before .before .before .before .before in
-    let fitted = at-system-priority .before .before .before .before .before in
-    fitting fitted .few
+    let granted = c .before .before .before .before .before .before .before .before in
+    granting granted .fits .few
 
 number-at-requires : tie.Need-number-at-requires
 number-at-requires c κs = search needs
@@ -138,8 +128,7 @@ returns-3 c =
     (record {
       level = at-system-priority2 .system-priority2 .ensures;
       place = at-running-place2 .running-place2 .ensures;
-      number
-          = at-number-at .number-at .ensures;
+      number = at-number-at .number-at .ensures;
     }) (c .start .ensures)
 
 pub complete-spec : {M : Type 1} → statement M

@@ -47,8 +47,7 @@ ruling c =
     (record {
       system = at-system-priority .system-priority .result;
       runs = at-running-place .running-place .result;
-      level
-          = at-system-priority .system-priority .ensures;
+      level = at-system-priority .system-priority .ensures;
       place = at-running-place .running-place .ensures;
       named = at-numbered .numbered .ensures;
     })
@@ -58,11 +57,9 @@ granting : (c : tie.Else2) → Grants (begun (entered (c .before)) .args .t1)
     (lock (begun (entered (c .before)) .args .job .priority) (begun (entered (c .before)) .args .job .serial)
     (begun (entered (c .before)) .args .resource)) (c .before .before .before .before .before .before .numbered .result)
 granting c =
-    let at-running-place = c .before .before .before .before .before .before .before .before .before .before in
-    let at-sections-fit = at-running-place .before .before .before .before .before .before .before .before .before .before in
-    let entry = at-sections-fit .before .before .before .before .before .before .before .before .before in
-    grants (ruling (c .before)) (omega arith) (locking-ruled (tableOf (entry .args .t1)) (entryOf (entry .args .t1))
-    (ltb (entry .args .t1 .sections) 16) (entry .args .resource)) (c .before .lock-rule .ensures) (c .if2 .left)
+    grants (ruling (c .before)) (omega arith) (locking-ruled (tableOf (begun (entered (c .before)) .args .t1))
+    (entryOf (begun (entered (c .before)) .args .t1)) (ltb (begun (entered (c .before)) .args .t1 .sections) 16)
+    (begun (entered (c .before)) .args .resource)) (c .before .lock-rule .ensures) (c .if2 .left)
 
 tasks-fit-requires : tie.Need-tasks-fit-requires
 tasks-fit-requires c κs = search needs
@@ -100,10 +97,7 @@ lock-rule-requires : tie.Need-lock-rule-requires
 lock-rule-requires c κs = search needs
 
 refused-requires : tie.Need-refused-requires
-refused-requires c κs =
-    let at-running-place = c .before .before .before .before .before .before .before .before .before .before in
-    let fitted = at-running-place .before .before .before .before .before .before .before .before .before in
-    fitting fitted .few
+refused-requires c κs = ruling (c .before) .fits .few
 
 returns-2 : tie.Need-returns-2
 returns-2 c =
@@ -157,18 +151,14 @@ add-self c =
 
 system-priority-requires-2 : tie.Need-system-priority-requires-2
 system-priority-requires-2 c κs =
-    let at-lock-rule = c .before .before .before .before .before .before .before .before .before .before in
-    let at-running-place = at-lock-rule .before .before .before .before .before .before .before .before .before in
-    let fitted = at-running-place .before .before .before .before .before .before .before .before .before in
-    fitting fitted .few
+    let granted = c .before .before .before .before .before .before .before .before .before in
+    granting granted .fits .few
 
 running-place-requires-2 : tie.Need-running-place-requires-2
 running-place-requires-2 c κs =
     let at-count-at = c .before .before .before .before .before .before .before .before .before .before in
-    let at-numbered = at-count-at .before .before .before .before .before .before .before .before .before in
-    let at-system-priority = at-numbered .before .before .before .before .before .before .before .before in
-    let fitted = at-system-priority .before .before .before .before .before in
-    fitting fitted .few
+    let granted = at-count-at .before .before .before in
+    granting granted .fits .few
 
 number-at-requires : tie.Need-number-at-requires
 number-at-requires c κs = search needs
@@ -188,8 +178,7 @@ returns-3 c =
     (record {
       level = at-system-priority2 .system-priority2 .ensures;
       place = at-running-place2 .running-place2 .ensures;
-      number
-          = at-number-at .number-at .ensures;
+      number = at-number-at .number-at .ensures;
     }) (c .start .ensures)
 
 pub lock-spec : {M : Type 1} → statement M

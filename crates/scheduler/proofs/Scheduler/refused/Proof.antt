@@ -24,8 +24,7 @@ returns c =
           (record {
             level = at-system-priority .system-priority .ensures;
             place = at-running-place .running-place .ensures;
-            number
-                = c .number-at .ensures;
+            number = c .number-at .ensures;
           }) i;
       state = entry .args .t1;
     }

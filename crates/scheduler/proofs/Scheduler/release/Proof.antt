@@ -41,10 +41,8 @@ ruling c =
 granting : (c : tie.Else2) → Grants (begun (entered (c .before)) .args .t1) (release (begun (entered (c .before)) .args .priority))
     (c .before .before .before .before .place-of-priority .result)
 granting c =
-    let at-sections-fit = c .before .before .before .before .before .before .before .before in
-    let entry = at-sections-fit .before .before .before .before .before .before .before .before .before in
-    grants (ruling (c .before)) (omega arith) (releasing-ruled (entryOf (entry .args .t1))) (c .before .release-rule .ensures)
-    (c .if2 .left)
+    grants (ruling (c .before)) (omega arith) (releasing-ruled (entryOf (begun (entered (c .before)) .args .t1)))
+    (c .before .release-rule .ensures) (c .if2 .left)
 
 tasks-fit-requires : tie.Need-tasks-fit-requires
 tasks-fit-requires c κs = search needs
@@ -73,9 +71,7 @@ release-rule-requires : tie.Need-release-rule-requires
 release-rule-requires c κs = search needs
 
 refused-requires : tie.Need-refused-requires
-refused-requires c κs =
-    let fitted = c .before .before .before .before .before .before .before in
-    fitting fitted .few
+refused-requires c κs = ruling (c .before) .fits .few
 
 returns-2 : tie.Need-returns-2
 returns-2 c =
@@ -84,14 +80,13 @@ returns-2 c =
 
 last-open-requires : tie.Need-last-open-requires
 last-open-requires c κs =
-    let fitted = c .before .before .before .before .before .before .before .before .before in
-    fitting fitted .room
+    let granted = c .before .before in
+    granting granted .fits .room
 
 ceiling-requires : tie.Need-ceiling-requires
 ceiling-requires c κs =
-    let at-place-of-priority = c .before .before .before .before .before .before .before .before .before .before in
-    let fitted = at-place-of-priority .before .before .before in
-    fitting fitted .few
+    let granted = c .before .before .before .before .before .before in
+    granting granted .fits .few
 
 element-copy-out-admitted : tie.Need-element-copy-out-admitted
 element-copy-out-admitted c =
@@ -147,16 +142,14 @@ clear-requires c κs =
 system-priority-requires : tie.Need-system-priority-requires
 system-priority-requires c κs =
     let at-ceiling = c .before .before .before .before .before .before .before .before .before .before in
-    let at-place-of-priority = at-ceiling .before .before .before .before .before .before .before .before .before .before .before in
-    let fitted = at-place-of-priority .before .before .before in
-    fitting fitted .few
+    let granted = at-ceiling .before .before .before .before .before .before .before in
+    granting granted .fits .few
 
 running-place-requires : tie.Need-running-place-requires
 running-place-requires c κs =
     let at-admitted = c .before .before .before .before .before .before .before .before .before .before .before .before in
-    let at-release-rule = at-admitted .before .before .before .before .before .before .before .before .before .before in
-    let fitted = at-release-rule .before .before .before .before .before .before in
-    fitting fitted .few
+    let granted = at-admitted .before .before .before .before .before .before .before .before .before in
+    granting granted .fits .few
 
 number-at-requires : tie.Need-number-at-requires
 number-at-requires c κs = search needs
@@ -179,8 +172,7 @@ returns-3 c =
     (release-done (granting granted) (record {
       level = at-ceiling .ceiling .result;
       last = at-last-open .last-open .result;
-      opens
-          = at-last-open .last-open .ensures;
+      opens = at-last-open .last-open .ensures;
       tops = at-ceiling .ceiling .ensures;
       number = at-admitted .admitted .ensures;
     })
@@ -188,8 +180,7 @@ returns-3 c =
     (record {
       level = at-system-priority .system-priority .ensures;
       place = at-running-place .running-place .ensures;
-      number
-          = at-number-at .number-at .ensures;
+      number = at-number-at .number-at .ensures;
     }) (c .start .ensures)
 
 pub release-spec : {M : Type 1} → statement M

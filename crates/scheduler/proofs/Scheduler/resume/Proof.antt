@@ -65,9 +65,7 @@ sleeper-requires c κs =
     fitting fitted .few
 
 refused-requires : tie.Need-refused-requires
-refused-requires c κs =
-    let fitted = c .before .before .before .before .before .before in
-    fitting fitted .few
+refused-requires c κs = ruling (c .before) .fits .few
 
 returns-2 : tie.Need-returns-2
 returns-2 c =
@@ -77,13 +75,13 @@ returns-2 c =
 
 last-open-requires : tie.Need-last-open-requires
 last-open-requires c κs =
-    let fitted = c .before .before .before .before .before .before .before .before in
-    fitting fitted .room
+    let granted = c .before .before in
+    granting granted .fits .room
 
 ceiling-requires : tie.Need-ceiling-requires
 ceiling-requires c κs =
-    let fitted = c .before .before .before .before .before .before .before .before .before .before .before .before in
-    fitting fitted .few
+    let granted = c .before .before .before .before .before .before in
+    granting granted .fits .few
 
 element-copy-out-admitted : tie.Need-element-copy-out-admitted
 element-copy-out-admitted c =
@@ -101,15 +99,14 @@ element-write-self c =
 system-priority-requires : tie.Need-system-priority-requires
 system-priority-requires c κs =
     let at-last-open = c .before .before .before .before .before .before .before .before .before .before in
-    let fitted = at-last-open .before .before .before .before .before .before .before .before .before in
-    fitting fitted .few
+    let granted = at-last-open .before .before .before in
+    granting granted .fits .few
 
 running-place-requires : tie.Need-running-place-requires
 running-place-requires c κs =
     let at-ceiling = c .before .before .before .before .before .before .before .before .before .before in
-    let at-sleeper = at-ceiling .before .before .before .before .before .before .before .before in
-    let fitted = at-sleeper .before .before .before .before .before in
-    fitting fitted .few
+    let granted = at-ceiling .before .before .before .before .before .before .before in
+    granting granted .fits .few
 
 number-at-requires : tie.Need-number-at-requires
 number-at-requires c κs = search needs
@@ -130,16 +127,14 @@ returns-3 c =
     (resume-done (granting granted) (record {
       level = at-ceiling .ceiling .result;
       last = at-last-open .last-open .result;
-      opens
-          = at-last-open .last-open .ensures;
+      opens = at-last-open .last-open .ensures;
       tops = at-ceiling .ceiling .ensures;
       number = at-admitted .admitted .ensures;
     }))
     (record {
       level = at-system-priority .system-priority .ensures;
       place = at-running-place .running-place .ensures;
-      number
-          = at-number-at .number-at .ensures;
+      number = at-number-at .number-at .ensures;
     }) (c .start .ensures)
 
 pub resume-spec : {M : Type 1} → statement M

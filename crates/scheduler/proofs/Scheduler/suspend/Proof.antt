@@ -45,8 +45,7 @@ ruling c =
     (record {
       system = at-system-priority .system-priority .result;
       runs = at-running-place .running-place .result;
-      level
-          = at-system-priority .system-priority .ensures;
+      level = at-system-priority .system-priority .ensures;
       place = at-running-place .running-place .ensures;
       named = at-numbered .numbered .ensures;
     })
@@ -56,11 +55,8 @@ granting : (c : tie.Else2) → Grants (begun (entered (c .before)) .args .t1)
     (suspend (begun (entered (c .before)) .args .job .priority) (begun (entered (c .before)) .args .job .serial))
     (c .before .before .before .before .before .before .numbered .result)
 granting c =
-    let at-running-place = c .before .before .before .before .before .before .before .before .before .before in
-    let at-sections-fit = at-running-place .before .before .before .before .before .before .before .before .before .before in
-    let entry = at-sections-fit .before .before .before .before .before .before .before .before .before in
-    grants (ruling (c .before)) (omega arith) (suspending-ruled (tableOf (entry .args .t1)) (entryOf (entry .args .t1)))
-    (c .before .suspend-rule .ensures) (c .if2 .left)
+    grants (ruling (c .before)) (omega arith) (suspending-ruled (tableOf (begun (entered (c .before)) .args .t1))
+    (entryOf (begun (entered (c .before)) .args .t1))) (c .before .suspend-rule .ensures) (c .if2 .left)
 
 tasks-fit-requires : tie.Need-tasks-fit-requires
 tasks-fit-requires c κs = search needs
@@ -97,10 +93,7 @@ suspend-rule-requires : tie.Need-suspend-rule-requires
 suspend-rule-requires c κs = search needs
 
 refused-requires : tie.Need-refused-requires
-refused-requires c κs =
-    let at-running-place = c .before .before .before .before .before .before .before .before .before .before in
-    let fitted = at-running-place .before .before .before .before .before .before .before .before .before in
-    fitting fitted .few
+refused-requires c κs = ruling (c .before) .fits .few
 
 returns-2 : tie.Need-returns-2
 returns-2 c =
@@ -134,17 +127,13 @@ element-write-self-2 c =
 
 system-priority-requires-2 : tie.Need-system-priority-requires-2
 system-priority-requires-2 c κs =
-    let at-suspend-rule = c .before .before .before .before .before .before .before .before in
-    let at-running-place = at-suspend-rule .before .before .before .before .before .before .before .before .before in
-    let fitted = at-running-place .before .before .before .before .before .before .before .before .before in
-    fitting fitted .few
+    let granted = c .before .before .before .before .before .before .before in
+    granting granted .fits .few
 
 running-place-requires-2 : tie.Need-running-place-requires-2
 running-place-requires-2 c κs =
-    let at-suspend-rule = c .before .before .before .before .before .before .before .before .before .before .before .before in
-    let at-running-place = at-suspend-rule .before .before .before .before .before .before .before .before .before in
-    let fitted = at-running-place .before .before .before .before .before .before .before .before .before in
-    fitting fitted .few
+    let granted = c .before .before .before .before .before .before .before .before .before .before .before in
+    granting granted .fits .few
 
 number-at-requires : tie.Need-number-at-requires
 number-at-requires c κs = search needs
@@ -163,8 +152,7 @@ returns-3 c =
     (record {
       level = at-system-priority2 .system-priority2 .ensures;
       place = at-running-place2 .running-place2 .ensures;
-      number
-          = at-number-at .number-at .ensures;
+      number = at-number-at .number-at .ensures;
     }) (c .start .ensures)
 
 pub suspend-spec : {M : Type 1} → statement M

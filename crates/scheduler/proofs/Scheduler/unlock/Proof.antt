@@ -47,8 +47,7 @@ ruling c =
     (record {
       system = at-system-priority .system-priority .result;
       runs = at-running-place .running-place .result;
-      level
-          = at-system-priority .system-priority .ensures;
+      level = at-system-priority .system-priority .ensures;
       place = at-running-place .running-place .ensures;
       named = at-numbered .numbered .ensures;
     })
@@ -58,11 +57,8 @@ granting : (c : tie.Else2) → Grants (begun (entered (c .before)) .args .t1)
     (unlock (begun (entered (c .before)) .args .job .priority) (begun (entered (c .before)) .args .job .serial)
     (begun (entered (c .before)) .args .resource)) (c .before .before .before .before .numbered .result)
 granting c =
-    let at-system-priority = c .before .before .before .before .before .before .before .before .before .before .before .before in
-    let at-tasks-fit = at-system-priority .before .before .before .before .before .before .before .before .before .before .before in
-    let entry = at-tasks-fit .before .before .before .before in
-    grants (ruling (c .before)) (omega arith) (unlocking-ruled (entryOf (entry .args .t1)) (entry .args .resource))
-    (c .before .unlock-rule .ensures) (c .if2 .left)
+    grants (ruling (c .before)) (omega arith) (unlocking-ruled (entryOf (begun (entered (c .before)) .args .t1))
+    (begun (entered (c .before)) .args .resource)) (c .before .unlock-rule .ensures) (c .if2 .left)
 
 tasks-fit-requires : tie.Need-tasks-fit-requires
 tasks-fit-requires c κs = search needs
@@ -100,10 +96,7 @@ unlock-rule-requires : tie.Need-unlock-rule-requires
 unlock-rule-requires c κs = search needs
 
 refused-requires : tie.Need-refused-requires
-refused-requires c κs =
-    let at-system-priority = c .before .before .before .before .before .before .before .before .before .before .before .before in
-    let fitted = at-system-priority .before .before .before .before .before in
-    fitting fitted .few
+refused-requires c κs = ruling (c .before) .fits .few
 
 returns-2 : tie.Need-returns-2
 returns-2 c =
@@ -115,23 +108,18 @@ element-write-self c = granting c .place
 
 section-at-requires : tie.Need-section-at-requires
 section-at-requires c κs =
-    let at-running-place = c .before .before .before .before .before .before .before .before .before .before .before in
-    let fitted = at-running-place .before .before .before .before .before .before .before .before .before in
-    fitting fitted .room
+    let granted = c .before .before .before in
+    granting granted .fits .room
 
 remove-requires : tie.Need-remove-requires
 remove-requires c κs =
     let granted = c .before .before .before .before .before in
-    let at-system-priority = granted .before .before .before .before .before .before .before .before .before .before .before .before in
-    let fitted = at-system-priority .before .before .before .before .before in
-    (fitting fitted .room, granting granted .sized .places)
+    (granting granted .fits .room, granting granted .sized .places)
 
 remove-requires-2 : tie.Need-remove-requires-2
 remove-requires-2 c κs =
     let granted = c .before .before .before .before .before .before .before in
-    let at-system-priority = granted .before .before .before .before .before .before .before .before .before .before .before .before in
-    let fitted = at-system-priority .before .before .before .before .before in
-    (fitting fitted .room, granting granted .sized .resources)
+    (granting granted .fits .room, granting granted .sized .resources)
 
 count-if-requires : tie.Need-count-if-requires
 count-if-requires c κs = search needs
@@ -146,17 +134,14 @@ sub-left c =
 
 last-open-requires : tie.Need-last-open-requires
 last-open-requires c κs =
-    let at-unlock-rule = c .before .before .before .before .before .before .before .before .before .before .before .before in
-    let at-system-priority = at-unlock-rule .before .before .before .before .before .before .before .before .before .before .before in
-    let fitted = at-system-priority .before .before .before .before .before in
-    omega (arith, fitting fitted .room)
+    let granted = c .before .before .before .before .before .before .before .before .before .before .before in
+    omega (arith, granting granted .fits .room)
 
 ceiling-requires : tie.Need-ceiling-requires
 ceiling-requires c κs =
     let at-section-at = c .before .before .before .before .before .before .before .before .before .before .before in
-    let at-running-place = at-section-at .before .before .before .before .before .before .before .before .before .before .before .before in
-    let fitted = at-running-place .before .before .before .before .before .before .before .before .before in
-    fitting fitted .few
+    let granted = at-section-at .before .before .before .before in
+    granting granted .fits .few
 
 count-if-requires-2 : tie.Need-count-if-requires-2
 count-if-requires-2 c κs = search needs
@@ -168,14 +153,14 @@ wake-requires c κs =
     let at-section-at = at-remove .before .before in
     let granted = at-section-at .before .before .before .before in
     let at-system-priority = granted .before .before .before .before .before .before .before .before .before .before .before .before in
-    let fitted = at-system-priority .before .before .before .before .before in
-    let entry = fitted .before .before .before .before .before .before .before .before .before .before in (
+    let at-tasks-fit = at-system-priority .before .before .before .before .before .before .before .before .before .before .before in
+    let entry = at-tasks-fit .before .before .before .before in (
       omega (
         arith,
         at-count-if2 .count-if2 .ensures,
         only-most (ltb (at-section-at .section-at .result) (entry .args .t1 .sections))
             (entry .args .t1 .tasks),
-        fitting fitted .few,
+        granting granted .fits .few,
       ),
       granting granted .sized .states,
     )
@@ -184,18 +169,15 @@ system-priority-requires-2 : tie.Need-system-priority-requires-2
 system-priority-requires-2 c κs =
     let at-ceiling = c .before .before .before .before .before .before .before .before .before in
     let at-section-at = at-ceiling .before .before .before .before .before .before .before .before .before .before .before .before in
-    let at-running-place = at-section-at .before .before .before .before .before .before .before .before .before .before .before .before in
-    let fitted = at-running-place .before .before .before .before .before .before .before .before .before in
-    fitting fitted .few
+    let granted = at-section-at .before .before .before .before in
+    granting granted .fits .few
 
 running-place-requires-2 : tie.Need-running-place-requires-2
 running-place-requires-2 c κs =
     let at-count-if2 = c .before .before .before .before .before .before .before .before .before .before .before in
     let at-remove = at-count-if2 .before .before .before .before .before .before .before .before .before .before .before .before in
-    let at-numbered = at-remove .before .before .before .before .before .before .before .before .before .before in
-    let at-system-priority = at-numbered .before .before .before .before .before .before .before .before in
-    let fitted = at-system-priority .before .before .before .before .before in
-    fitting fitted .few
+    let granted = at-remove .before .before .before .before .before .before in
+    granting granted .fits .few
 
 number-at-requires : tie.Need-number-at-requires
 number-at-requires c κs = search needs
@@ -226,19 +208,16 @@ returns-3 c =
       places-less = at-remove .remove .ensures;
       resources-less = at-remove2 .remove2 .ensures;
       count = ap (λ m. entry .args .t1 .sections - m) (at-count-if .count-if .ensures);
-      last
-          = at-last-open .last-open .result;
+      last = at-last-open .last-open .result;
       level = at-ceiling .ceiling .result;
       opens = at-last-open .last-open .ensures;
-      tops
-          = at-ceiling .ceiling .ensures;
+      tops = at-ceiling .ceiling .ensures;
       wakes = rw (← at-count-if2 .count-if2 .ensures) (at-wake .wake .ensures);
     }))
     (record {
       level = at-system-priority2 .system-priority2 .ensures;
       place = at-running-place2 .running-place2 .ensures;
-      number
-          = at-number-at .number-at .ensures;
+      number = at-number-at .number-at .ensures;
     }) (c .start .ensures)
 
 pub unlock-spec : {M : Type 1} → statement M
