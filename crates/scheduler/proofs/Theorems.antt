@@ -1,5 +1,5 @@
 -- What is proved of the scheduler's own calls, told by their replies alone: short waits, and job numbers that tell jobs apart.
-use mathlib.Core.Path.{_≡_, sym, ap, subst, fun-ext, _∙_}
+use mathlib.Core.Path.{_≡_, refl, sym, ap, subst, fun-ext, _∙_}
 use mathlib.Core.Logic.{_↔_}
 use mathlib.Core.List.{List}
 use Prim.Native.Nat.{ℕ, zero, suc, _<_}
@@ -7,24 +7,37 @@ use lib.Dec.{eqb}
 use Rattle.protocol.specs.Tasks.{Table, priority}
 use Rattle.protocol.specs.State.{serial}
 use Rattle.protocol.specs.Running.{aboveSystem}
-use Rattle.protocol.specs.Checks.{Call}
-use Rattle.protocol.specs.Step.{step}
+use Rattle.protocol.specs.Checks.{Call, Ruling, refuse, grant, ruling}
+use Rattle.protocol.specs.Step.{answer, step}
 use Rattle.protocol.specs.Accepted.{Accepted}
 use Rattle.protocol.specs.Trace.{released, after, event}
 use Rattle.protocol.specs.ShortWaits.{always, ShortWaits}
 use Rattle.protocol.specs.Numbers.{Entitled, releases, Wraps}
-use Rattle.protocol.proofs.Theorems.{short-waits-always, entitled, number-again}
+use Rattle.protocol.proofs.Theorems.{refused-keeps, short-waits-always, entitled, number-again}
 use Rattle.table.specs.declared.Shape.{Shape}
 use Rattle.table.proofs.Accepted.{well-formed}
 use Rattle.scheduler.specs.declared.Scheduler.{Scheduler}
 use Rattle.scheduler.specs.declared.Reply.{Reply}
 use Rattle.scheduler.specs.View.{Sized, tableOf, stateOf}
-use Rattle.scheduler.specs.Replies.{replied}
+use Rattle.scheduler.specs.Replies.{written, replied}
 use Rattle.scheduler.specs.Fresh.{freshOf}
 use Rattle.scheduler.specs.Driven.{Driven, eventIf, told}
+use Rattle.scheduler.proofs.Written.{beside-self, written-again}
 use Rattle.scheduler.proofs.Following.{replied-follows, replied-sized}
 use Rattle.scheduler.proofs.Events.{event-told, granted-to}
 use Rattle.scheduler.proofs.Beginning.{fresh-view, fresh-sized, fresh-accepted, set-up-fresh}
+
+-- a refused call leaves the scheduler as it is, to the last byte
+pub refused-same : {s : Scheduler} → Sized s → (c : Call) → (replied s c .refusal ≡ 0 → ⊥) → replied s c .state ≡ s
+unfolding step
+refused-same {s} Z c n = go (ruling aboveSystem (tableOf s) (stateOf s) c) refl
+  where
+    go : (q : Ruling) → ruling aboveSystem (tableOf s) (stateOf s) c ≡ q → replied s c .state ≡ s
+    go (refuse k) e =
+        ap (written s) (refused-keeps aboveSystem (tableOf s) (stateOf s) c k e) ∙ sym (written-again Z (beside-self s))
+    go (grant i) e = absurd (n (ap (λ q. answer aboveSystem (tableOf s) (stateOf s) c q .refusal) e))
+
+-- ---- calls one after the other
 
 module _ {bytes : List ℕ} {h : Shape} {calls : ℕ → Call} {S : ℕ → Scheduler} {R : ℕ → Reply} (D : Driven bytes h calls S R) where
   -- the table of the bytes

@@ -1,0 +1,1 @@
+// The user's three demands, as theorems about the definitions that the public functions are promised by: all of it is in specs/.
