@@ -5,4 +5,3 @@ mod Starting
 mod Answering
 pub mod Right
 pub mod Replies
-mod Cases

@@ -39,35 +39,22 @@ callsK =
     release 1 ∷ lock 1 0 1 ∷ release 3 ∷ release 2 ∷ unlock 1 0 1 ∷ suspend 3 0 ∷ complete 2 0 ∷ lock 1 0 1 ∷ resume 3 0 ∷ unlock 1 0 1
     ∷ unlock 1 0 1 ∷ []
 
--- a table's tasks, calls on a fresh scheduler, and how they are answered
-record Case : Type 0 where
-  tasks : Table
-  calls : List Call
-  answered : List (ℕ × Running)
+-- how they are answered, the last with 13
+abbrev pub answersK : List (ℕ × Running)
+answersK =
+    (0, job 1 0) ∷ (0, job 1 0) ∷ (0, job 1 0) ∷ (0, job 1 0) ∷ (0, job 3 0) ∷ (0, job 2 0) ∷ (0, job 1 0) ∷ (0, job 1 0) ∷ (0, job 1 0)
+    ∷ (0, job 3 0) ∷ (13, job 3 0) ∷ []
 
--- K on table A, and L on table B
-abbrev cases : List Case
-cases =
-    record {
-      tasks = table 0;
-      calls = callsK;
-      answered = (0, job 1 0) ∷ (0, job 1 0) ∷ (0, job 1 0) ∷ (0, job 1 0) ∷ (0, job 3 0) ∷ (0, job 2 0) ∷ (0, job 1 0) ∷ (0, job 1 0) ∷ (0, job 1 0)
-          ∷ (0, job 3 0) ∷ (13, job 3 0) ∷ [];
-    }
-    ∷ record {
-      tasks = table 1;
-      calls =
-          release 1 ∷ lock 1 0 1 ∷ release 3 ∷ unlock 1 0 1 ∷ suspend 3 0 ∷ release 2 ∷ complete 2 0 ∷ resume 3 0 ∷ complete 3 0 ∷ [];
-      answered = (0, job 1 0) ∷ (0, job 1 0) ∷ (0, job 1 0) ∷ (0, job 3 0) ∷ (0, idle) ∷ (0, job 2 0) ∷ (0, idle) ∷ (0, job 3 0) ∷ (0, job 1 0) ∷ [];
-    }
-    ∷ []
+-- L's calls
+abbrev pub callsL : List Call
+callsL = release 1 ∷ lock 1 0 1 ∷ release 3 ∷ unlock 1 0 1 ∷ suspend 3 0 ∷ release 2 ∷ complete 2 0 ∷ resume 3 0 ∷ complete 3 0 ∷ []
 
--- each list of calls has its answers
-abbrev Hold : List Case → Type 0
-Hold [] = Unit {0}
-Hold (c ∷ cs) = (answers (c .tasks) fresh (c .calls) ≡ c .answered) × Hold cs
+-- how they are answered
+abbrev pub answersL : List (ℕ × Running)
+answersL =
+    (0, job 1 0) ∷ (0, job 1 0) ∷ (0, job 1 0) ∷ (0, job 3 0) ∷ (0, idle) ∷ (0, job 2 0) ∷ (0, idle) ∷ (0, job 3 0) ∷ (0, job 1 0) ∷ []
 
--- the checker computes them
-pub computed : Hold cases
+-- K on table A and L on table B, computed
+pub computed : (answers (table 0) fresh callsK ≡ answersK) × (answers (table 1) fresh callsL ≡ answersL)
 unfolding answers step fit used named all some running systemPriority top ceiling first best largest has without
-computed = (refl, (refl, tt))
+computed = (refl, refl)

@@ -6,4 +6,3 @@ pub mod Accepted
 pub mod Complete
 pub mod Laid
 mod Parts
-mod Cases
