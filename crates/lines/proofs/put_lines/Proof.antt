@@ -42,7 +42,12 @@ returns-2 c =
     let first = verdictText (analysis .verdict) (analysis .evaluations) in
     let lines = taskLines (entry .args .bytes .now) analysis (analysis .tasks) in
     let from-newline = put-then (judged .last .0) (judged .result) newline lines (ended .last .0) (listed .last .0) (ended .result) (listed .result)
-    (omega (arith, entry .pre .1, judged .ensures .1, c .before .before .before .before .before .before .before .before .before .before .out2 .given)) (ended .ensures) (listed .ensures) in
+    (omega (
+      arith,
+      entry .pre .1,
+      judged .ensures .1,
+      c .before .before .before .before .before .before .before .before .before .before .out2 .given,
+    )) (ended .ensures) (listed .ensures) in
     rw (le-ltb 0 (analysis .refusal .number) (c .before .before .before .before .before .before .before .before .before .before .before .before .before .if1 .left))
     (put-then (entry .args .out .now) 0 first (newline ++ lines) (judged .last .0) (listed .last .0) (judged .result) (listed .result)
     (omega (arith, entry .pre .1, judged .ensures .0 .end, judged .ensures .1)) (judged .ensures .0) from-newline)

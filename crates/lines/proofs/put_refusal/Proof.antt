@@ -41,7 +41,14 @@ returns c =
     let first = labelled (text "refused ") (entry .args .refusal .number) in
     let second = labelled (text " at ") (entry .args .refusal .place) in
     let from-second = put-then (numbered .last .0) (numbered .result) second newline (placed .last .0) (ended .last .0) (placed .result) (ended .result)
-    (omega (arith, entry .pre, numbered .ensures .1, c .before .before .before .before .before .before .before .before .before .before .before .out .given, placed .ensures .0 .end, placed .ensures .1)) (placed .ensures .0) (ended .ensures) in
+    (omega (
+      arith,
+      entry .pre,
+      numbered .ensures .1,
+      c .before .before .before .before .before .before .before .before .before .before .before .out .given,
+      placed .ensures .0 .end,
+      placed .ensures .1,
+    )) (placed .ensures .0) (ended .ensures) in
     put-then (entry .args .out .now) 0 first (second ++ newline) (numbered .last .0) (ended .last .0) (numbered .result) (ended .result)
     (omega (arith, entry .pre, numbered .ensures .0 .end, numbered .ensures .1)) (numbered .ensures .0) from-second
 

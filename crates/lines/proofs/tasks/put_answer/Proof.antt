@@ -35,19 +35,37 @@ same-length : tie.Need-same-length
 same-length c = search needs
 
 returns : tie.Need-returns
-returns c = (rw (c .before .before .before .before .before .before .answer .given .1) (c .before .before .put .ensures .0), omega (arith, c .before .before .put .ensures .1))
+returns c = (
+  rw (c .before .before .before .before .before .before .answer .given .1) (c .before .before .put .ensures .0),
+  omega (
+    arith,
+    c .before .before .put .ensures .1,
+  ),
+)
 
 same-length-2 : tie.Need-same-length-2
 same-length-2 c = search needs
 
 returns-2 : tie.Need-returns-2
-returns-2 c = (rw (c .before .before .before .before .before .before .answer2 .given .1) (c .before .before .put2 .ensures .0), omega (arith, c .before .before .put2 .ensures .1))
+returns-2 c = (
+  rw (c .before .before .before .before .before .before .answer2 .given .1) (c .before .before .put2 .ensures .0),
+  omega (
+    arith,
+    c .before .before .put2 .ensures .1,
+  ),
+)
 
 same-length-3 : tie.Need-same-length-3
 same-length-3 c = search needs
 
 returns-3 : tie.Need-returns-3
-returns-3 c = (rw (c .before .before .before .before .before .enum-told .given .1) (c .before .before .put-text .ensures), omega (arith, c .before .before .put-text .ensures .end))
+returns-3 c = (
+  rw (c .before .before .before .before .before .enum-told .given .1) (c .before .before .put-text .ensures),
+  omega (
+    arith,
+    c .before .before .put-text .ensures .end,
+  ),
+)
 
 pub put-answer-spec : {M : Type 1} → statement M
 put-answer-spec =

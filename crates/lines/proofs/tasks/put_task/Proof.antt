@@ -18,7 +18,12 @@ put-requires : tie.Need-put-requires
 put-requires c κs = search needs
 
 put-answer-requires : tie.Need-put-answer-requires
-put-answer-requires c κs = omega (arith, c .before .before .before .before .before .before .before .before .pre, c .before .before .before .put .ensures .1, c .before .before .out .given)
+put-answer-requires c κs = omega (
+  arith,
+  c .before .before .before .before .before .before .before .before .pre,
+  c .before .before .before .put .ensures .1,
+  c .before .before .out .given,
+)
 
 slice-aggregate-put-2 : tie.Need-slice-aggregate-put-2
 slice-aggregate-put-2 c = search needs
@@ -30,7 +35,14 @@ put-requires-2 : tie.Need-put-requires-2
 put-requires-2 c κs =
     let named = c .before .before .before .before .before .before .before .before .before .put in
     let answered = c .before .before .before .before .before .put-answer in
-    omega (arith, c .before .before .before .before .before .before .before .before .before .before .before .before .before .before .pre, named .ensures .1, c .before .before .before .before .before .before .before .before .out .given, answered .ensures .1, c .before .before .before .before .out2 .given)
+    omega (
+      arith,
+      c .before .before .before .before .before .before .before .before .before .before .before .before .before .before .pre,
+      named .ensures .1,
+      c .before .before .before .before .before .before .before .before .out .given,
+      answered .ensures .1,
+      c .before .before .before .before .out2 .given,
+    )
 
 slice-aggregate-put-text : tie.Need-slice-aggregate-put-text
 slice-aggregate-put-text c = search needs
@@ -62,10 +74,26 @@ returns c =
     let second = answerText (entry .args .answer) in
     let third = labelled (text " deadline ") (entry .args .task .deadline) in
     let from-third = put-then (answered .last .0) (answered .result) third newline (dated .last .0) (ended .last .0) (dated .result) (ended .result)
-    (omega (arith, entry .pre, named .ensures .1, c .before .before .before .before .before .before .before .before .before .before .before .before .before .before .before .before .out .given, answered .ensures .1, c .before .before .before .before .before .before .before .before .before .before .before .before .out2 .given, dated .ensures .0 .end, dated .ensures .1))
+    (omega (
+      arith,
+      entry .pre,
+      named .ensures .1,
+      c .before .before .before .before .before .before .before .before .before .before .before .before .before .before .before .before .out .given,
+      answered .ensures .1,
+      c .before .before .before .before .before .before .before .before .before .before .before .before .out2 .given,
+      dated .ensures .0 .end,
+      dated .ensures .1,
+    ))
     (dated .ensures .0) (ended .ensures) in
     let from-second = put-then (named .last .0) (named .result) second (third ++ newline) (answered .last .0) (ended .last .0) (answered .result) (ended .result)
-    (omega (arith, entry .pre, named .ensures .1, c .before .before .before .before .before .before .before .before .before .before .before .before .before .before .before .before .out .given, answered .ensures .0 .end, answered .ensures .1)) (answered .ensures .0) from-third in (
+    (omega (
+      arith,
+      entry .pre,
+      named .ensures .1,
+      c .before .before .before .before .before .before .before .before .before .before .before .before .before .before .before .before .out .given,
+      answered .ensures .0 .end,
+      answered .ensures .1,
+    )) (answered .ensures .0) from-third in (
       put-then (entry .args .out .now) (entry .args .at) first (second ++ (third ++ newline)) (named .last .0) (ended .last .0) (named .result) (ended .result)
           (omega (arith, entry .pre, named .ensures .0 .end, named .ensures .1)) (named .ensures .0) from-second,
       omega (arith, named .ensures .1, answered .ensures .1, dated .ensures .1, ended .ensures .end),

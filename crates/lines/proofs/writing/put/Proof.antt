@@ -16,7 +16,10 @@ use Rattle.lines.proofs.writing.put.Tie as tie
 few : (c : tie.After-digits2) → c .before .before .before .before .before .before .decimal .result ≤ 20
 few c =
     let spelled = c .before .before .before .before .before .before .decimal in
-    digits-most (spelled .result) (c .before .before .before .before .before .before .before .before .before .before .args .number) (omega (arith, c .before .before .before .before .before .before .before .before .before .before .fits)) (spelled .ensures .1 .0)
+    digits-most (spelled .result) (c .before .before .before .before .before .before .before .before .before .before .args .number) (omega (
+      arith,
+      c .before .before .before .before .before .before .before .before .before .before .fits,
+    )) (spelled .ensures .1 .0)
 
 decimal-requires : tie.Need-decimal-requires
 decimal-requires c κs = search needs
