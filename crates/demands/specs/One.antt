@@ -4,11 +4,16 @@ use Prim.Native.Nat.{ℕ, suc, _<_}
 use mathlib.Core.Path.{_≡_, sym, _∙_}
 use mathlib.Core.Logic.{_↔_}
 use mathlib.Core.List.{List}
-use lib.ListN.{length}
+use lib.ListN.{getD, length}
 use Rattle.table.specs.declared.Shape.{Shape}
+use Rattle.table.specs.declared.Reading.{Reading}
+use Rattle.table.specs.Fields.{wordAt, noTask, noUse, taskAt, useAt}
+use Rattle.table.specs.Replies as table-replies
 use Rattle.table.specs.Reading.{readTable}
 use Rattle.table.specs.Records.{recordOf}
 use Rattle.held.specs.declared.Table.{Table}
+use Rattle.held.specs.declared.Writing.{Writing}
+use Rattle.held.specs.Replies as held-replies
 use Rattle.held.specs.Loading.{loadTable}
 use Rattle.held.specs.Writing.{writeTable, written}
 use Rattle.analysis.specs.declared.Analysis.{Analysis}
@@ -43,13 +48,25 @@ one d r q e f = e ∙ sym f
 
 -- What a host may call, by the definition that it is promised by: bytes, tables, states and numbers are any.
 pub record OneReply : Type 0 where
-  -- table::read, table::record_of
+  -- table::read, and number and place of its answer
   pub reads : (s : List ℕ) → One (readTable s)
+  pub read-numbers : (r : Reading) → One (table-replies.numberOf r)
+  pub read-places : (r : Reading) → One (table-replies.placeOf r)
+  -- table::record_of, byte_at, word_at, task_at, use_at, no_task, no_use
   pub records : (s : List ℕ) (p : ℕ) → One (recordOf s p)
-  -- held::load, held::write and the buffer that it is lent
+  pub bytes : (s : List ℕ) (at : ℕ) → One (getD s at 0)
+  pub words : (s : List ℕ) (at : ℕ) → One (wordAt s at)
+  pub tasks : (s : List ℕ) (at : ℕ) → One (taskAt s at)
+  pub uses : (s : List ℕ) (at : ℕ) → One (useAt s at)
+  pub empty-task : One noTask
+  pub empty-use : One noUse
+  -- held::load; held::write and the buffer that it is lent; number, place and count of its answer
   pub loads : (s : List ℕ) → One (loadTable s)
   pub writes : (t : Table) (room : ℕ) → One (writeTable t room)
   pub writes-to : (t : Table) (out : List ℕ) → One (written t out)
+  pub write-numbers : (w : Writing) → One (held-replies.numberOf w)
+  pub write-places : (w : Writing) → One (held-replies.placeOf w)
+  pub write-counts : (w : Writing) → One (held-replies.countOf w)
   -- analysis::analyse, Analysis::answer
   pub analyses : (s : List ℕ) (allowance : ℕ) → One (analysed s allowance)
   pub answers : (a : Analysis) (place : ℕ) → One (answerAt a place)
@@ -66,10 +83,21 @@ pub record OneReply : Type 0 where
 pub one-reply : OneReply
 one-reply = record {
   reads = λ s. one (readTable s);
+  read-numbers = λ r. one (table-replies.numberOf r);
+  read-places = λ r. one (table-replies.placeOf r);
   records = λ s p. one (recordOf s p);
+  bytes = λ s at. one (getD s at 0);
+  words = λ s at. one (wordAt s at);
+  tasks = λ s at. one (taskAt s at);
+  uses = λ s at. one (useAt s at);
+  empty-task = one noTask;
+  empty-use = one noUse;
   loads = λ s. one (loadTable s);
   writes = λ t room. one (writeTable t room);
   writes-to = λ t out. one (written t out);
+  write-numbers = λ w. one (held-replies.numberOf w);
+  write-places = λ w. one (held-replies.placeOf w);
+  write-counts = λ w. one (held-replies.countOf w);
   analyses = λ s allowance. one (analysed s allowance);
   answers = λ a place. one (answerAt a place);
   reports = λ s allowance room. one (reported s allowance room);
