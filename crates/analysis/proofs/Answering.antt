@@ -5,13 +5,13 @@ use mathlib.Core.Bool.{Bool, true, false}
 use mathlib.Core.List.{List, _++_}
 use native.Mathlib.Decide.{decLt}
 use native.Mathlib.Omega.{arith}
-use lib.ListN.{getD, length, drop, replicate, length-append, length-replicate, getD-replicate, List·getD-append, List·getD-eq-default, replicate-append-replicate}
-use lib.Seq.{ext-getD, getD-append-add, drop-at}
+use lib.ListN.{getD, drop, replicate, length-replicate, replicate-append-replicate}
+use lib.Seq.{ext-getD, drop-at}
 use Rattle.table.specs.declared.Shape.{Shape}
 use Rattle.table.specs.declared.Reading.the-variants.{Accepted}
 use Rattle.table.specs.Indexed.{allTo, every}
 use Rattle.table.specs.WellFormed.{WellFormed}
-use Rattle.table.proofs.Indexed.{all-same, length-every, getD-every}
+use Rattle.table.proofs.Indexed.{all-same, same-at, filled-at, filled-past, filled-length}
 use Rattle.rounds.specs.Rounds.{Progress, analysis, answer, begin}
 use Rattle.rounds.specs.AllowanceLaws.{within-allowed, beyond-refused}
 use Rattle.equations.specs.View.{ownSettings}
@@ -28,11 +28,7 @@ begin-is s h settings v n made e l z = rw (e, l, z)
 
 -- no task is marked yet
 pub marks-start : (n : ℕ) → Marks n (replicate 32 false)
-marks-start n = record { sized = refl; rest = λ j l. go j (decLt j 32) }
-  where
-    go : (j : ℕ) → Dec (j < 32) → getD (replicate 32 false) j false ≡ false
-    go j (yes p) = getD-replicate 32 j false false p
-    go j (no p) = List·getD-eq-default (replicate 32 false) false {n = j} (omega arith)
+marks-start n = record { sized = refl; rest = λ j l. same-at false 32 j }
 
 -- what is left of an array of zeros
 pub zeros-left : (n : ℕ) → n ≤ 32 → drop {A = ℕ} n (replicate 32 0) ≡ replicate (32 - n) 0
@@ -45,21 +41,11 @@ zeros-left n l =
 -- marks that are those of f for n tasks
 marks-are : (n : ℕ) (f : ℕ → Bool) (b : List Bool) → n ≤ 32 → Marks n b → ((i : ℕ) → i < n → getD b i false ≡ f i) → b ≡ every f n 0 ++ replicate (32 - n) false
 marks-are n f b l m h =
-    let size-is : length (every f n 0 ++ replicate (32 - n) false) ≡ 32 =
-    length-append (every f n 0) (replicate (32 - n) false) ∙ omega (arith, length-every f n 0, length-replicate {A = Bool} (32 - n) false) in
-    ext-getD false b (every f n 0 ++ replicate (32 - n) false) (m .sized ∙ sym size-is) (λ i p. go i (omega (arith, m .sized)) (decLt i n))
+    ext-getD false b (every f n 0 ++ replicate (32 - n) false) (m .sized ∙ sym (filled-length f false 32 n l)) (λ i p. go i (decLt i n))
   where
-    go : (i : ℕ) → i < 32 → Dec (i < n) → getD b i false ≡ getD (every f n 0 ++ replicate (32 - n) false) i false
-    go i p (yes q) =
-        let z : 0 + i ≡ i = omega arith in
-        h i q ∙ ap f (sym z) ∙ sym (getD-every f n 0 i false q)
-        ∙ sym (List·getD-append (every f n 0) (replicate (32 - n) false) false i (let e = length-every f n 0 in omega arith))
-    go i p (no q) =
-        let e = length-every f n 0 in
-        let at : i ≡ length (every f n 0) + (i - n) = omega arith in
-        m .rest i (omega arith) ∙ sym (getD-replicate (32 - n) (i - n) false false (omega arith))
-        ∙ sym (getD-append-add (every f n 0) (replicate (32 - n) false) (i - n) false)
-        ∙ ap (λ (k : ℕ). getD (every f n 0 ++ replicate (32 - n) false) k false) (sym at)
+    go : (i : ℕ) → Dec (i < n) → getD b i false ≡ getD (every f n 0 ++ replicate (32 - n) false) i false
+    go i (yes q) = h i q ∙ sym (filled-at f false n (32 - n) i q)
+    go i (no q) = m .rest i (omega arith) ∙ sym (filled-past f false n (32 - n) i (omega arith))
 
 module _ (s : List ℕ) (h : Shape) (w : WellFormed s h) (allowance : ℕ) (settings : List ℕ) (own : settings ≡ ownSettings s (h .tasks))
     (v : List ℕ) (b : List Bool) (r : Round) (g : Settled (h .tasks) allowance (equationsOf s h settings) v b r) where

@@ -1,6 +1,6 @@
 -- What a host is told: refused with 8 exactly when the total is larger than the allowance, an answer given stands under any larger one, the
 -- verdict is yes exactly when no task has none, and a value is conditional exactly when some task has none.
-use Prim.Native.Nat.{ℕ, _+_, _-_, _≤_, _<_}
+use Prim.Native.Nat.{ℕ, _-_, _≤_, _<_}
 use mathlib.Core.Path.{_≡_, refl, sym, ap, _∙_}
 use mathlib.Core.Logic.{_↔_}
 use mathlib.Core.Bool.{Bool, true, false}
@@ -12,10 +12,9 @@ use borrow.Author.Tests.{lt-ltb}
 use Rattle.table.specs.declared.Shape.{Shape}
 use Rattle.table.specs.declared.Reading.{Reading}
 use Rattle.table.specs.declared.Reading.the-variants.{Accepted, Refused}
-use Rattle.table.specs.Indexed.{every}
 use Rattle.table.specs.Reading.{readTable}
 use Rattle.table.proofs.Accepted.{well-formed}
-use Rattle.table.proofs.Indexed.{all-each, all-fails, all-true, length-every, getD-every}
+use Rattle.table.proofs.Indexed.{all-each, all-fails, all-true, filled-at}
 use Rattle.rounds.specs.Answer as theory
 use Rattle.rounds.specs.Answer.{value}
 use Rattle.rounds.specs.System.{deadline}
@@ -125,11 +124,7 @@ module _ (s : List ℕ) (h : Shape) (e : readTable s ≡ Accepted h) (allowance 
 
   module _ (i : ℕ) (p : i < h .tasks) where
     mark-is : getD (doneBy s h (analysis (ownSystem s h)) .bounds) i false ≡ bounded (answer (ownSystem s h) i)
-    mark-is =
-        let marks : ℕ → Bool = λ j. bounded (answer (ownSystem s h) j) in
-        let z : 0 + i ≡ i = omega arith in
-        List·getD-append (every marks (h .tasks) 0) (replicate (32 - h .tasks) false) false i (omega (arith, length-every marks (h .tasks) 0))
-        ∙ getD-every marks (h .tasks) 0 i false p ∙ ap marks z
+    mark-is = filled-at (λ j. bounded (answer (ownSystem s h) j)) false (h .tasks) (32 - h .tasks) i p
 
     value-is : getD (doneBy s h (analysis (ownSystem s h)) .values) i 0 ≡ value (deadline (ownSystem s h) i) (answer (ownSystem s h) i)
     value-is =

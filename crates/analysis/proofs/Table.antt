@@ -1,13 +1,13 @@
 -- A table's equations as the code meets them: deadlines, starts and right sides by place.
 use Prim.Native.Nat.{ℕ, _+_, _*_, _≤_, _<_}
-use mathlib.Core.Path.{_≡_, sym, ap, _∙_}
+use mathlib.Core.Path.{_≡_, sym, _∙_}
 use mathlib.Core.Bool.{true, false}
 use mathlib.Core.List.{List}
 use native.Mathlib.Omega.{arith}
 use Rattle.table.specs.declared.Shape.{Shape}
 use Rattle.table.specs.Fields.{wordAt}
 use Rattle.table.specs.WellFormed.{taskOf, WellFormed}
-use Rattle.table.proofs.Indexed.{length-every, getD-every}
+use Rattle.table.proofs.Indexed.{length-every, every-at}
 use Rattle.rounds.specs.System.{System, size, deadline}
 use Rattle.rounds.specs.VectorLaws.{⊑-refl}
 use Rattle.equations.specs.declared.Query.{Query}
@@ -32,9 +32,7 @@ module _ (s : List ℕ) (h : Shape) (settings : List ℕ) (w : WellFormed s h) w
   table-size = length-every (λ i. taskOf s i .deadline) (h .tasks) 0
 
   pub deadline-is : (i : ℕ) → i < h .tasks → taskOf s i .deadline ≡ deadline (equationsOf s h settings) i
-  deadline-is i l =
-      let z : 0 + i ≡ i = omega arith in
-      sym (getD-every (λ i. taskOf s i .deadline) (h .tasks) 0 i 0 l ∙ ap (λ (k : ℕ). taskOf s k .deadline) z)
+  deadline-is i l = sym (every-at (λ i. taskOf s i .deadline) (h .tasks) i 0 l)
 
 module _ (s settings ceilings v : List ℕ) (q : Query) (g : Solvable s settings ceilings v q) where
   abbrev S : System

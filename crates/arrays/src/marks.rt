@@ -1,13 +1,14 @@
 // The numbers that stand for a status, a serial or a count, one at a time.
 ghost use mathlib.Core.Path.{_≡_};
-ghost use mathlib.Core.Bool.{not};
+ghost use mathlib.Core.Bool.{not, _&&_};
 ghost use Prim.Native.Nat.{_+_, _%_, _≤_, _<_, max};
-ghost use lib.Dec.{ltb};
+ghost use lib.Dec.{ltb, eqb};
 ghost use Rattle.protocol.specs.Searches.{only};
 ghost use Rattle.protocol.specs.State.{following, isNone, isReady, isAsleep};
 ghost use Rattle.protocol.specs.Acting.{admittedBy};
 ghost use Rattle.arrays.specs.View.{statusOf, ownNumber};
 ghost use Rattle.arrays.specs.Stores.{wokenNumber};
+use crate::Number;
 
 // A byte as a place.
 pub fn wide(byte: u8) -> usize
@@ -99,6 +100,14 @@ pub fn last_serial(next: u16) -> u16
     ensures { λ r. ⌜ r ≡ (next + 65535) % 65536 ⌝ }
 {
     std::num::wrapping_add_u16(next, 65535)
+}
+
+// Whether a job has this number: its task's priority, and the serial before the next one.
+pub fn has_number(priority: u8, next: u16, job: Number) -> bool
+    ensures { λ r. ⌜ r ≡ eqb priority (job .priority) && eqb ((next + 65535) % 65536) (job .serial) ⌝ }
+{
+    let last = last_serial(next);
+    (priority == job.priority) & (last == job.serial)
 }
 
 // One more, where a bound lies above.

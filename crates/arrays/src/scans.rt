@@ -7,11 +7,11 @@ ghost use Rattle.protocol.specs.Running.{systemPriority};
 ghost use Rattle.arrays.specs.View.{ranked, jobs, eligibleAt, numberIn, ofPriority, ofNumber, sleeping, placeOf, passing};
 ghost use Rattle.arrays.specs.Stores.{bettered};
 use crate::Number;
+use crate::marks::has_number;
 use crate::marks::is_asleep;
 use crate::marks::is_ready;
 use crate::marks::is_unfinished;
 use crate::marks::larger;
-use crate::marks::last_serial;
 use crate::marks::only_if;
 use crate::marks::wide;
 
@@ -107,8 +107,7 @@ pub fn numbered<'a>(
     if 32 <= place {
         return 32;
     }
-    let last = last_serial(serials[place]);
-    let same = (priorities[place] == job.priority) & (last == job.serial);
+    let same = has_number(priorities[place], serials[place], job);
     if same {
         return place;
     }
@@ -129,8 +128,8 @@ pub fn sleeper<'a>(
 {
     let mut i: usize = 0;
     while i < tasks {
-        let last = last_serial(serials[i]);
-        let test = is_asleep(states[i]) & ((priorities[i] == job.priority) & (last == job.serial));
+        let named = has_number(priorities[i], serials[i], job);
+        let test = is_asleep(states[i]) & named;
         if test {
             return i;
         }

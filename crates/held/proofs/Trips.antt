@@ -6,7 +6,7 @@ use mathlib.Core.List.{List, _++_}
 use native.Mathlib.Omega.{arith}
 use native.Mathlib.Decide.{decLt}
 use lib.Dec.{ltb}
-use lib.ListN.{length, getD, take, drop, replicate, List·getD-append}
+use lib.ListN.{length, getD, take, drop, replicate}
 use lib.Seq.{take-at, take-all}
 use borrow.Author.Tests.{le-ltb}
 use Rattle.table.specs.Indexed.{every}
@@ -27,7 +27,7 @@ use Rattle.held.specs.Loading.{filledBy, loadTable}
 use Rattle.held.specs.Replies.{countOf}
 use Rattle.held.specs.Writing.{encode, decided, writeTable, written}
 use Rattle.held.specs.Trips.{TaskSized, Sized, trimmed}
-use Rattle.table.proofs.Indexed.{length-every, getD-every, every-same, every-take}
+use Rattle.table.proofs.Indexed.{every-at, filled-at, every-same, every-take}
 use Rattle.held.proofs.Laying.{laidOut, task-back, use-back}
 use Rattle.held.proofs.Again.{laid-again}
 use Rattle.held.proofs.Loads.{held-accepted}
@@ -38,10 +38,7 @@ use Rattle.held.proofs.Refusals.{listed, listed-within, length-within, 
 -- the entries of a filled list, up to its count, are what filled it
 filled-entries : {A : Type 0} (f : ℕ → A) (none : A) (k more : ℕ) → every (λ (i : ℕ). getD (every f k 0 ++ replicate more none) i none) k 0 ≡ every f k 0
 filled-entries f none k more =
-    every-same (λ (i : ℕ). getD (every f k 0 ++ replicate more none) i none) f k 0 (λ j h.
-    let z : 0 + j ≡ j = omega arith in
-    List·getD-append (every f k 0) (replicate more none) none j (let l = length-every f k 0 in omega arith)
-    ∙ getD-every f k 0 j none (omega arith) ∙ ap f z)
+    every-same (λ (i : ℕ). getD (every f k 0 ++ replicate more none) i none) f k 0 (λ j h. filled-at f none k more j (omega arith))
 
 -- the bytes of what an accepted table holds are the table's
 bytes-back : (s : List ℕ) → ((i : ℕ) → getD s i 0 < 256) → (h : Shape) → readTable s ≡ Accepted h → encode (loadTable s .table) ≡ s
@@ -106,9 +103,7 @@ entries-back f xs none k h g = every-same f (λ (j : ℕ). getD xs j none) k 0 (
 entry-listed : {A : Type 0} (none : A) (limit : ℕ) (xs : List A) (count : ℕ) → count ≤ limit → (j : ℕ) → j < count
     → getD (listed none limit xs count) j none ≡ getD xs j none
 entry-listed none limit xs count h j l =
-    let z : 0 + j ≡ j = omega arith in
-    ap (λ (ys : List _). getD ys j none) (listed-within none limit xs count h)
-    ∙ getD-every (λ (i : ℕ). getD xs i none) count 0 j none l ∙ ap (λ (i : ℕ). getD xs i none) z
+    ap (λ (ys : List _). getD ys j none) (listed-within none limit xs count h) ∙ every-at (λ (i : ℕ). getD xs i none) count j none l
 
 module _ (t : Table) (z : Sized t) (h : Shape) (e : readTable (encode t) ≡ Accepted h) where
   -- the counts that are read are those of the records that are written

@@ -16,7 +16,7 @@ use Rattle.table.specs.declared.Reading.the-variants.{Accepted, Refused}
 use Rattle.table.specs.Indexed.{every}
 use Rattle.table.specs.Reading.{readTable}
 use Rattle.table.specs.WellFormed.{taskOf}
-use Rattle.table.proofs.Indexed.{length-every, getD-every}
+use Rattle.table.proofs.Indexed.{length-every, every-at}
 use Rattle.rounds.specs.Rounds.{answer}
 use Rattle.rounds.specs.Allowance.{Allowed, within, beyond, allowed}
 use Rattle.rounds.specs.AllowanceLaws.{within-allowed, beyond-refused}
@@ -64,9 +64,8 @@ module _ (s : List ℕ) (allowance : ℕ) (rows : List Row) where
   row-at : (i : ℕ) (d : Row) → i < reply .tasks → getD (rowsAfter s allowance rows) i d ≡ taskRow s (analysed s allowance) i
   row-at i d l =
       let row : ℕ → Row = taskRow s (analysed s allowance) in
-      let z : 0 + i ≡ i = omega arith in
       List·getD-append (every row (reply .tasks) 0) (drop (reply .tasks) rows) d i (omega (arith, length-every row (reply .tasks) 0))
-      ∙ getD-every row (reply .tasks) 0 i d l ∙ ap row z
+      ∙ every-at row (reply .tasks) i d l
 
   -- a row past the tasks is as it was
   pub later-row : (j : ℕ) (d : Row) → reply .tasks ≤ j → getD (rowsAfter s allowance rows) j d ≡ getD rows j d

@@ -15,19 +15,12 @@ use Rattle.table.specs.declared.Shape.{Shape}
 use Rattle.table.specs.declared.Reading.the-variants as reading
 use Rattle.table.specs.Reading.{readTable}
 use Rattle.table.specs.WellFormed.{taskOf, WellFormed}
-use Rattle.table.proofs.Indexed.{length-every}
+use Rattle.table.proofs.Indexed.{length-every, every-at, same-at}
 use Rattle.arrays.specs.View.{statusOf, countOf, sectionsBy}
 use Rattle.scheduler.specs.View.{Sized, tableOf, entryOf, stateOf}
 use Rattle.scheduler.specs.Fresh.{column, freshOf, setUpBy, setUp}
-use Rattle.scheduler.proofs.Written.{every-at}
 
 -- ---- no job yet
-
--- a list of one value has it everywhere
-all-alike : {A : Type 0} (z : A) (n k : ℕ) → getD (replicate n z) k z ≡ z
-all-alike z zero k = refl
-all-alike z (suc n) zero = refl
-all-alike z (suc n) (suc k) = all-alike z n k
 
 -- no count
 no-counts : (k r : ℕ) → countOf (replicate 512 0) k r ≡ 0
@@ -35,7 +28,7 @@ no-counts k zero = refl
 no-counts k (suc r) = go (ltb r 16)
   where
     go : (b : Bool) → only b (getD (replicate 512 0) (k * 16 + r) 0) ≡ 0
-    go true = all-alike {A = ℕ} 0 512 (k * 16 + r)
+    go true = same-at {A = ℕ} 0 512 (k * 16 + r)
     go false = refl
 
 module _ (s : List ℕ) (h : Shape) where
@@ -46,9 +39,9 @@ module _ (s : List ℕ) (h : Shape) where
     where
       entry : (k : ℕ) → entryOf (freshOf s h) k ≡ fresh .entry k
       entry k =
-          let status = ap statusOf (all-alike {A = ℕ} 0 32 k) in
-          let started = all-alike false 32 k in
-          let number = all-alike {A = ℕ} 0 32 k in
+          let status = ap statusOf (same-at {A = ℕ} 0 32 k) in
+          let started = same-at false 32 k in
+          let number = same-at {A = ℕ} 0 32 k in
           let opened = fun-ext (no-counts k) in
           λ i. record { status = status i; started = started i; sleeps = number i; opened = opened i; held = number i; next = number i }
 

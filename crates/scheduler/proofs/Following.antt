@@ -17,13 +17,13 @@ use Rattle.protocol.specs.Checks.{Call}
 use Rattle.protocol.specs.Acting.{section}
 use Rattle.protocol.specs.Step.{step}
 use Rattle.table.specs.Indexed.{every}
-use Rattle.table.proofs.Indexed.{length-every}
+use Rattle.table.proofs.Indexed.{length-every, every-at}
 use Rattle.arrays.specs.View.{statusOf, ownNumber, countOf}
 use Rattle.arrays.proofs.Opened.{sections-length}
 use Rattle.scheduler.specs.declared.Scheduler.{Scheduler}
 use Rattle.scheduler.specs.View.{Sized, tableOf, entryOf, stateOf}
 use Rattle.scheduler.specs.Replies.{says, numberFor, slotFor, written, replied}
-use Rattle.scheduler.proofs.Written.{every-at, section-at}
+use Rattle.scheduler.proofs.Written.{section-at}
 use Rattle.scheduler.proofs.Viewing.{Fit, fit-known}
 use Rattle.scheduler.proofs.Ends.{unfit-replied}
 use Rattle.scheduler.proofs.Reach.{step-past, step-unused, step-few}

@@ -1,5 +1,5 @@
 -- A scheduler that keeps what the view doesn't show is its own view written back.
-use mathlib.Core.Path.{_≡_, refl, sym, ap, _∙_}
+use mathlib.Core.Path.{_≡_, refl, sym, _∙_}
 use mathlib.Core.List.{List, [], _∷_, _++_}
 use mathlib.Core.Bool.{true, false}
 use Prim.Native.Nat.{ℕ, zero, suc, _+_, _*_, _/_, _%_, _≤_, _<_}
@@ -15,7 +15,7 @@ use Rattle.protocol.specs.Searches.{only}
 use Rattle.protocol.specs.State.{Status, none, ready, waiting, asleep, Section}
 use Rattle.protocol.specs.Acting.{section}
 use Rattle.table.specs.Indexed.{every}
-use Rattle.table.proofs.Indexed.{length-every, getD-every}
+use Rattle.table.proofs.Indexed.{length-every, every-at}
 use Rattle.arrays.specs.View.{statusOf, countOf, sectionsBy}
 use Rattle.arrays.proofs.Opened.{sections-length}
 use Rattle.scheduler.specs.declared.Scheduler.{Scheduler}
@@ -77,11 +77,7 @@ beside-self s = record {
 pub listed : {A : Type 0} (l : List A) (d : A) (n : ℕ) (f : ℕ → A) → length l ≡ n → ((k : ℕ) → k < n → getD l k d ≡ f k) → l ≡ every f n 0
 listed l d n f e h =
     ext-getD d l (every f n 0) (e ∙ sym (length-every f n 0))
-    (λ k lt. let z : 0 + k ≡ k = omega arith in h k (omega arith) ∙ sym (getD-every f n 0 k d (omega arith) ∙ ap f z))
-
--- and holds it there
-pub every-at : {A : Type 0} (f : ℕ → A) (n k : ℕ) (d : A) → k < n → getD (every f n 0) k d ≡ f k
-every-at f n k d h = let z : 0 + k ≡ k = omega arith in getD-every f n 0 k d h ∙ ap f z
+    (λ k lt. h k (omega arith) ∙ sym (every-at f n k d (omega arith)))
 
 -- the counts by place and resource
 count-again : (l : List ℕ) (k : ℕ) → getD l k 0 ≡ countOf l (k / 16) (k % 16 + 1)

@@ -7,8 +7,8 @@ use native.Mathlib.Numerals.{add-one}
 use native.Mathlib.Nat.{add-zero}
 use native.Mathlib.Decide.{ℕ-discrete}
 use native.Mathlib.Omega.{arith}
-use lib.ListN.{length, getD, set, take, drop, replicate}
-use lib.Seq.{set-at, drop-cons}
+use lib.ListN.{length, getD, set, take, drop, replicate, length-append, length-replicate, List·getD-append}
+use lib.Seq.{set-at, drop-cons, getD-append-add}
 use Rattle.table.specs.Indexed.{sumTo, allTo, every}
 
 -- ---- sums
@@ -116,6 +116,34 @@ module _ {A : Type 0} where
   getD-every f zero i j d h = absurd (omega arith)
   getD-every f (suc k) i zero d h = ap f (sym (add-zero i))
   getD-every f (suc k) i (suc j) d h = let e : i + 1 + j ≡ i + suc j = omega arith in getD-every f k (i + 1) j d (omega arith) ∙ ap f e
+
+  -- from the first on
+  pub every-at : (f : ℕ → A) (k j : ℕ) (d : A) → j < k → getD (every f k 0) j d ≡ f j
+  every-at f k j d h = let z : 0 + j ≡ j = omega arith in getD-every f k 0 j d h ∙ ap f z
+
+  -- one value everywhere
+  pub same-at : (none : A) (n j : ℕ) → getD (replicate n none) j none ≡ none
+  same-at none zero j = refl
+  same-at none (suc n) zero = refl
+  same-at none (suc n) (suc j) = same-at none n j
+
+  -- k entries, and the rest none: an entry
+  pub filled-at : (f : ℕ → A) (none : A) (k more j : ℕ) → j < k → getD (every f k 0 ++ replicate more none) j none ≡ f j
+  filled-at f none k more j h =
+      List·getD-append (every f k 0) (replicate more none) none j (omega (arith, length-every f k 0)) ∙ every-at f k j none h
+
+  -- and past them
+  pub filled-past : (f : ℕ → A) (none : A) (k more j : ℕ) → k ≤ j → getD (every f k 0 ++ replicate more none) j none ≡ none
+  filled-past f none k more j h =
+      let there : j ≡ length (every f k 0) + (j - k) = omega (arith, length-every f k 0) in
+      ap (λ (n : ℕ). getD (every f k 0 ++ replicate more none) n none) there
+      ∙ getD-append-add (every f k 0) (replicate more none) (j - k) none ∙ same-at none more (j - k)
+
+  -- how long that is
+  pub filled-length : (f : ℕ → A) (none : A) (total k : ℕ) → k ≤ total → length (every f k 0 ++ replicate (total - k) none) ≡ total
+  filled-length f none total k h =
+      length-append (every f k 0) (replicate (total - k) none)
+      ∙ omega (arith, length-every f k 0, length-replicate {A = A} (total - k) none)
 
   -- equal where they are read
   pub every-same : (f g : ℕ → A) (k i : ℕ) → ((j : ℕ) → j < i + k → f j ≡ g j) → every f k i ≡ every g k i

@@ -21,14 +21,17 @@ loop-holds : tie.Need-loop-holds Inv-loop μ-loop
 unfolding first
 loop-holds c = (omega arith, refl)
 
-mul-last-serial : tie.Need-mul-last-serial Inv-loop μ-loop
-mul-last-serial c = omega arith
+element-copy-out-has-number : tie.Need-element-copy-out-has-number Inv-loop μ-loop
+element-copy-out-has-number c = omega arith
 
-element-copy-out-last-serial : tie.Need-element-copy-out-last-serial Inv-loop μ-loop
-element-copy-out-last-serial c = omega arith
+mul-has-number : tie.Need-mul-has-number Inv-loop μ-loop
+mul-has-number c = omega arith
 
-last-serial-requires : tie.Need-last-serial-requires Inv-loop μ-loop
-last-serial-requires c κs = search needs
+element-copy-out-has-number-2 : tie.Need-element-copy-out-has-number-2 Inv-loop μ-loop
+element-copy-out-has-number-2 c = omega arith
+
+has-number-requires : tie.Need-has-number-requires Inv-loop μ-loop
+has-number-requires c κs = search needs
 
 element-copy-out-is-asleep : tie.Need-element-copy-out-is-asleep Inv-loop μ-loop
 element-copy-out-is-asleep c = omega arith
@@ -36,19 +39,15 @@ element-copy-out-is-asleep c = omega arith
 is-asleep-requires : tie.Need-is-asleep-requires Inv-loop μ-loop
 is-asleep-requires c κs = search needs
 
-element-copy-out-test : tie.Need-element-copy-out-test Inv-loop μ-loop
-element-copy-out-test c = omega arith
-
 returns : tie.Need-returns Inv-loop μ-loop
 returns c =
-    let at-is-asleep = c .before .before .before .before in
-    let at-last-serial = at-is-asleep .before .before in
-    let at-loop-test = at-last-serial .before .before in
+    let at-has-number = c .before .before .before in
+    let at-loop-test = at-has-number .before .before .before in
     let turn = at-loop-test .before in
     let entry = turn .before in
     rw (lt-ltb (turn .loop .i) 32 (omega arith)) (sym (first-here (sleeping (entry .args .states .now) (entry .args .priorities .now)
     (entry .args .serials .now) (entry .args .job .priority) (entry .args .job .serial)) (turn .loop .i) (entry .args .tasks)
-    (turn .loop .inv .1) (rw (← at-is-asleep .is-asleep .ensures, ← at-last-serial .last-serial .ensures) (c .if1 .taken))
+    (turn .loop .inv .1) (rw (← c .before .is-asleep .ensures, ← at-has-number .has-number .ensures) (c .if1 .taken))
     (at-loop-test .loop-test .taken)))
 
 add-i : tie.Need-add-i Inv-loop μ-loop
@@ -59,14 +58,13 @@ loop-less c = omega arith
 
 loop-again : tie.Need-loop-again Inv-loop μ-loop
 loop-again c =
-    let at-is-asleep = c .before .before .before .before in
-    let at-last-serial = at-is-asleep .before .before in
-    let turn = at-last-serial .before .before .before in
+    let at-has-number = c .before .before .before in
+    let turn = at-has-number .before .before .before .before in
     let entry = turn .before in (
       omega arith,
       first-on (sleeping (entry .args .states .now) (entry .args .priorities .now) (entry .args .serials .now)
           (entry .args .job .priority) (entry .args .job .serial)) (turn .loop .i) (turn .loop .inv .1)
-          (rw (← at-is-asleep .is-asleep .ensures, ← at-last-serial .last-serial .ensures) (c .if1 .left)),
+          (rw (← c .before .is-asleep .ensures, ← at-has-number .has-number .ensures) (c .if1 .left)),
     )
 
 returns-2 : tie.Need-returns-2 Inv-loop μ-loop
@@ -81,12 +79,12 @@ sleeper-spec =
     Inv-loop
     μ-loop
     loop-holds
-    mul-last-serial
-    element-copy-out-last-serial
-    last-serial-requires
+    element-copy-out-has-number
+    mul-has-number
+    element-copy-out-has-number-2
+    has-number-requires
     element-copy-out-is-asleep
     is-asleep-requires
-    element-copy-out-test
     returns
     add-i
     loop-less
