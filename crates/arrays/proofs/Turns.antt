@@ -1,5 +1,5 @@
 -- The machine's searches at each turn of a loop.
-use mathlib.Core.Path.{_≡_, refl}
+use mathlib.Core.Path.{_≡_, refl, sym, ap, _∙_}
 use mathlib.Core.List.{List}
 use mathlib.Core.Bool.{Bool, true, false, cond, not, _&&_}
 use Prim.Native.Nat.{ℕ, zero, suc, _+_, _<_, max}
@@ -8,11 +8,12 @@ use native.Mathlib.Numerals.{add-one}
 use native.Mathlib.Decide.{ℕ-discrete}
 use lib.Dec.{ltb, leb}
 use lib.ListN.{getD}
-use borrow.Author.Tests.{lt-ltb, le-leb}
+use borrow.Author.Tests.{lt-ltb, le-ltb, ltb-true, ltb-false, le-leb}
 use Rattle.protocol.specs.Searches.{Place, nowhere, at, orElse, ifHere, first, beats, best, all, some, largest, only}
-use Rattle.protocol.specs.State.{isNone}
+use Rattle.protocol.specs.State.{isNone, isReady}
+use Rattle.protocol.specs.Running.{systemPriority, aboveSystem, running}
 use Rattle.arrays.specs.declared.scans.Candidate.{Candidate}
-use Rattle.arrays.specs.View.{statusOf, countOf, placeOf}
+use Rattle.arrays.specs.View.{statusOf, countOf, ranked, jobs, placeOf, passing}
 use Rattle.arrays.specs.Stores.{bettered}
 
 -- ---- what the scans look at
@@ -28,6 +29,14 @@ usesIt uses r i = ltb 0 (countOf uses i r)
 -- the setting of a started, unfinished job, else 0
 abbrev pub startedSetting : List ℕ → List Bool → List ℕ → ℕ → ℕ
 startedSetting states started settings i = only (getD started i false && not (isNone (statusOf (getD states i 0)))) (getD settings i 0)
+
+-- the number in a list
+abbrev pub numberIn : List ℕ → ℕ → ℕ
+numberIn l i = getD l i 0
+
+-- whether the job is ready
+abbrev pub readyIn : List ℕ → ℕ → Bool
+readyIn states i = isReady (statusOf (getD states i 0))
 
 -- ---- first
 
@@ -112,3 +121,69 @@ stands-on test f i found lt S = rw add-one (go (best test f i) (test i) S)
         → Stands f (orElse (ifHere (b && beats f i p) i) p) (cond (b && leb (found .above) (f i)) (record { place = i; above = f i + 1 }) found)
     go nowhere b S = beat b nowhere true (le-leb (found .above) (f i) (omega (arith, S .above))) refl S
     go (at j) b S = beat b (at j) (leb (found .above) (f i)) refl (rw (S .above, add-one)) S
+
+-- ---- the best above a level
+
+-- The best of those above the level y is the best of all, where that is above it.
+module _ (test : ℕ → Bool) (f : ℕ → ℕ) (y : ℕ) where
+  -- whether the number at a place is above the level
+  abbrev higher : ℕ → Bool
+  higher i = ltb y (f i)
+
+  pub best-above : (n : ℕ) → best (λ i. test i && higher i) f n ≡ passing higher (best test f n)
+  unfolding best
+  best-above zero = refl
+  best-above (suc k) = rw (best-above k) (go (test k) (best test f k))
+    where
+      low : (j : ℕ) (d : Bool) → ltb (f j) (f k) ≡ d → higher k ≡ false
+          → passing higher (at j) ≡ passing higher (orElse (ifHere d k) (at j))
+      low j true e h = rw (h, le-ltb y (f j) (omega (arith, ltb-true (f j) (f k) e, ltb-false y (f k) h)))
+      low j false e h = refl
+
+      high : (j : ℕ) (a : Bool) → higher j ≡ a → higher k ≡ true
+          → orElse (ifHere (beats f k (ifHere a j)) k) (ifHere a j) ≡ passing higher (orElse (ifHere (ltb (f j) (f k)) k) (at j))
+      high j false e h =
+          let l : f j < f k = omega (arith, ltb-true y (f k) h, ltb-false y (f j) e) in
+          rw (lt-ltb (f j) (f k) l, h)
+      high j true e h = both (ltb (f j) (f k))
+        where
+          both : (d : Bool) → orElse (ifHere d k) (at j) ≡ passing higher (orElse (ifHere d k) (at j))
+          both true = rw h
+          both false = rw e
+
+      go : (b : Bool) (p : Place)
+          → orElse (ifHere ((b && higher k) && beats f k (passing higher p)) k) (passing higher p)
+          ≡ passing higher (orElse (ifHere (b && beats f k p) k) p)
+      go false p = refl
+      go true nowhere = pick (higher k) refl
+        where
+          pick : (d : Bool) → higher k ≡ d → orElse (ifHere (d && true) k) nowhere ≡ ifHere (higher k) k
+          pick true e = rw e
+          pick false e = rw e
+      go true (at j) = pick (higher k) refl
+        where
+          pick : (d : Bool) → higher k ≡ d
+              → orElse (ifHere (d && beats f k (ifHere (higher j) j)) k) (ifHere (higher j) j)
+              ≡ passing higher (orElse (ifHere (ltb (f j) (f k)) k) (at j))
+          pick true e = high j (higher j) refl e
+          pick false e = low j (ltb (f j) (f k)) refl e
+
+  -- the code finds it by the candidate's height
+  pub stands-above : (p : Place) (found : Candidate) → Stands f p found → placeOf (cond (ltb (y + 1) (found .above)) (found .place) 32) ≡ passing higher p
+  stands-above nowhere found S = rw (le-ltb (y + 1) (found .above) (omega (arith, S .above)))
+  stands-above (at i) found S = go (higher i) refl
+    where
+      go : (d : Bool) → higher i ≡ d → placeOf (cond (ltb (y + 1) (found .above)) (found .place) 32) ≡ ifHere d i
+      go true e = rw (lt-ltb (y + 1) (found .above) (omega (arith, S .above, ltb-true y (f i) e))) (S .place)
+      go false e = rw (le-ltb (y + 1) (found .above) (omega (arith, S .above, ltb-false y (f i) e)))
+
+-- the running job is found by the system priority, and the highest ready one
+pub running-found : (states : List ℕ) (started : List Bool) (settings priorities : List ℕ) (n system : ℕ) (found : Candidate)
+    → system ≡ largest (startedSetting states started settings) n
+    → Stands (numberIn priorities) (best (readyIn states) (numberIn priorities) n) found
+    → placeOf (cond (ltb (system + 1) (found .above)) (found .place) 32) ≡ running aboveSystem (ranked n priorities settings) (jobs states started)
+unfolding running systemPriority
+running-found states started settings priorities n system found e S =
+    stands-above (readyIn states) (numberIn priorities) system (best (readyIn states) (numberIn priorities) n) found S
+    ∙ sym (best-above (readyIn states) (numberIn priorities) system n)
+    ∙ ap (λ y. best (λ i. readyIn states i && ltb y (numberIn priorities i)) (numberIn priorities) n) e

@@ -5,13 +5,15 @@ use mathlib.Core.Bool.{Bool, true, cond, _&&_}
 use Prim.Native.Nat.{ℕ, suc, _+_, _≤_, _<_}
 use lib.Dec.{ltb, leb, eqb}
 use lib.ListN.{length, getD, set}
+use Rattle.protocol.specs.Searches.{Place, nowhere, at}
 use Rattle.protocol.specs.Acting.{oneMore}
 use Rattle.arrays.specs.declared.scans.Candidate.{Candidate}
 use Rattle.arrays.specs.View.{countOf}
 
--- the started marks with that at the place i set, where it is one
-abbrev pub startedAt : List Bool → ℕ → List Bool
-startedAt l i = cond (ltb i 32) (set l i true) l
+-- the started marks with that at a place set
+abbrev pub startedAt : List Bool → Place → List Bool
+startedAt l nowhere = l
+startedAt l (at i) = set l i true
 
 -- The counts of the task at the place i are 0, and all others as they were.
 pub record Cleared (a : List ℕ) (i : ℕ) (b : List ℕ) : Type 0 where

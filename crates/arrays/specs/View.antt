@@ -6,7 +6,7 @@ use lib.Dec.{ltb, eqb}
 use lib.ListN.{getD}
 use Rattle.protocol.specs.Tasks.{Table}
 use Rattle.protocol.specs.Searches.{Place, nowhere, at, ifHere, only}
-use Rattle.protocol.specs.State.{Status, none, ready, waiting, asleep, Entry, Section, isReady, isAsleep}
+use Rattle.protocol.specs.State.{Status, none, ready, waiting, asleep, Entry, Section, State, isAsleep}
 use Rattle.protocol.specs.Checks.{numbered}
 use Rattle.protocol.specs.Acting.{section}
 
@@ -53,6 +53,10 @@ unfoldable pub sectionsBy : List ℕ → List ℕ → ℕ → List Section
 sectionsBy places resources zero = []
 sectionsBy places resources (suc n) = sectionsBy places resources n ++ (section (getD places n 0) (getD resources n 0) ∷ [])
 
+-- a state by its open sections alone
+abbrev pub opening : List Section → State
+opening sections = record { entry = entriesBy [] [] [] [] [] []; sections = sections }
+
 -- the resource of the last of n open sections, 0 where there is none
 abbrev pub lastOpen : List ℕ → ℕ → ℕ
 lastOpen resources zero = 0
@@ -77,14 +81,6 @@ abbrev pub holders : List ℕ → ℕ → Entry
 holders held = entriesBy [] [] [] [] held []
 
 -- ---- tests of a place
-
--- the number in a list
-abbrev pub numberIn : List ℕ → ℕ → ℕ
-numberIn l i = getD l i 0
-
--- whether the job is ready and above the system priority
-abbrev pub eligibleAt : List ℕ → List ℕ → ℕ → ℕ → Bool
-eligibleAt states priorities system i = isReady (statusOf (getD states i 0)) && ltb system (getD priorities i 0)
 
 -- whether the task has the priority p
 abbrev pub ofPriority : List ℕ → ℕ → ℕ → Bool

@@ -1,10 +1,11 @@
 // Scans over the tasks: who runs, and at which place a job stands.
 ghost use mathlib.Core.Path.{_≡_};
-ghost use mathlib.Core.List.{[]};
-ghost use Prim.Native.Nat.{_≤_, _<_};
-ghost use Rattle.protocol.specs.Searches.{first, best};
-ghost use Rattle.protocol.specs.Running.{systemPriority};
-ghost use Rattle.arrays.specs.View.{ranked, jobs, eligibleAt, numberIn, ofPriority, ofNumber, sleeping, placeOf, passing};
+ghost use mathlib.Core.Bool.{cond};
+ghost use Prim.Native.Nat.{_+_, _≤_, _<_};
+ghost use lib.Dec.{ltb};
+ghost use Rattle.protocol.specs.Searches.{first};
+ghost use Rattle.protocol.specs.Running.{aboveSystem, running};
+ghost use Rattle.arrays.specs.View.{ranked, jobs, ofPriority, ofNumber, sleeping, placeOf, passing};
 ghost use Rattle.arrays.specs.Stores.{bettered};
 use crate::Number;
 use crate::marks::has_number;
@@ -21,26 +22,6 @@ pub struct Candidate {
     pub above: usize,
 }
 
-// The largest setting among started, unfinished jobs, else 0.
-pub fn system_priority<'a>(
-    states: &'a [u8; 32],
-    started: &'a [bool; 32],
-    settings: &'a [u8; 32],
-    tasks: usize,
-) -> u8
-    requires { ⌜ tasks ≤ 32 ⌝ }
-    ensures { λ r. ⌜ r ≡ systemPriority (ranked tasks [] (now (settings .entry))) (jobs (now (states .entry)) (now (started .entry))) ⌝ }
-{
-    let mut highest: u8 = 0;
-    let mut i: usize = 0;
-    while i < tasks {
-        let counts = started[i] & is_unfinished(states[i]);
-        highest = larger(highest, only_if(counts, settings[i]));
-        i += 1;
-    }
-    highest
-}
-
 // The candidate after one more place.
 fn better(found: Candidate, place: usize, test: bool, priority: u8) -> Candidate
     ensures { λ r. ⌜ r ≡ bettered found place test priority ⌝ }
@@ -55,29 +36,42 @@ fn better(found: Candidate, place: usize, test: bool, priority: u8) -> Candidate
     found
 }
 
-// The place of the highest ready job above the system priority, or 32.
+// The candidate's place where its priority is above a level, else 32.
+fn place_above(found: Candidate, level: u8) -> usize
+    ensures { λ r. ⌜ r ≡ cond (ltb (level + 1) (found .above)) (found .place) 32 ⌝ }
+{
+    if wide(level) + 1 < found.above {
+        return found.place;
+    }
+    32
+}
+
+// The place of the running job, or 32: the highest ready one, where it is above the system priority.
 pub fn running_place<'a>(
     states: &'a [u8; 32],
+    started: &'a [bool; 32],
+    settings: &'a [u8; 32],
     priorities: &'a [u8; 32],
     tasks: usize,
-    system: u8,
 ) -> usize
     requires { ⌜ tasks ≤ 32 ⌝ }
-    ensures { λ r. ⌜ placeOf r
-        ≡ best (eligibleAt (now (states .entry)) (now (priorities .entry)) system) (numberIn (now (priorities .entry))) tasks ⌝ }
+    ensures { λ r. ⌜ placeOf r ≡ running aboveSystem (ranked tasks (now (priorities .entry)) (now (settings .entry)))
+        (jobs (now (states .entry)) (now (started .entry))) ⌝ }
 {
+    let mut system: u8 = 0;
     let mut found = Candidate {
         place: 32,
         above: 0,
     };
     let mut i: usize = 0;
     while i < tasks {
-        let p = priorities[i];
-        let test = is_ready(states[i]) & (system < p);
-        found = better(found, i, test, p);
+        let state = states[i];
+        let counts = started[i] & is_unfinished(state);
+        system = larger(system, only_if(counts, settings[i]));
+        found = better(found, i, is_ready(state), priorities[i]);
         i += 1;
     }
-    found.place
+    place_above(found, system)
 }
 
 // The place of the first task with a priority, or 32.
@@ -96,7 +90,7 @@ pub fn place_of_priority(priorities: &[u8; 32], tasks: usize, priority: u8) -> u
 }
 
 // The place again where its task's latest job has this number, else 32.
-pub fn numbered<'a>(
+fn numbered<'a>(
     priorities: &'a [u8; 32],
     serials: &'a [u16; 32],
     place: usize,
@@ -112,6 +106,24 @@ pub fn numbered<'a>(
         return place;
     }
     32
+}
+
+// The place of the running job where it has this number, else 32.
+pub fn caller<'a>(
+    states: &'a [u8; 32],
+    started: &'a [bool; 32],
+    settings: &'a [u8; 32],
+    priorities: &'a [u8; 32],
+    serials: &'a [u16; 32],
+    tasks: usize,
+    job: Number,
+) -> usize
+    requires { ⌜ tasks ≤ 32 ⌝ }
+    ensures { λ r. ⌜ placeOf r ≡ passing (ofNumber (now (priorities .entry)) (now (serials .entry)) (job .priority) (job .serial))
+        (running aboveSystem (ranked tasks (now (priorities .entry)) (now (settings .entry))) (jobs (now (states .entry)) (now (started .entry)))) ⌝ }
+{
+    let runs = running_place(states, started, settings, priorities, tasks);
+    numbered(priorities, serials, runs, job)
 }
 
 // The place of the first job that sleeps under this number, or 32.

@@ -6,8 +6,8 @@ ghost use Prim.Native.Nat.{_≤_, _<_};
 ghost use lib.Dec.{leb};
 ghost use Rattle.protocol.specs.Searches.{first, all};
 ghost use Rattle.protocol.specs.Running.{ceiling};
-ghost use Rattle.protocol.specs.Fit.{used, named};
-ghost use Rattle.arrays.specs.View.{countOf, users, sectionsBy, lastOpen, settingBelow, isSection, slotOf};
+ghost use Rattle.protocol.specs.Fit.{used, named, fit};
+ghost use Rattle.arrays.specs.View.{countOf, tasksBy, users, sectionsBy, opening, lastOpen, settingBelow, isSection, slotOf};
 use crate::marks::larger;
 use crate::marks::only_if;
 use crate::marks::wide;
@@ -70,7 +70,7 @@ fn is_used(uses: &[u8; 512], tasks: usize, resource: u8) -> bool
 }
 
 // Whether there are at most 32 tasks, each setting below its priority.
-pub fn tasks_fit<'a>(settings: &'a [u8; 32], priorities: &'a [u8; 32], tasks: usize) -> bool
+fn tasks_fit<'a>(settings: &'a [u8; 32], priorities: &'a [u8; 32], tasks: usize) -> bool
     ensures { λ r. ⌜ r ≡ leb tasks 32 && all (settingBelow (now (settings .entry)) (now (priorities .entry))) tasks ⌝ }
 {
     if 32 < tasks {
@@ -87,7 +87,7 @@ pub fn tasks_fit<'a>(settings: &'a [u8; 32], priorities: &'a [u8; 32], tasks: us
 }
 
 // Whether at most 16 sections are open, each naming the place of one of at most 32 tasks and a resource that some task uses.
-pub fn sections_fit<'a>(
+fn sections_fit<'a>(
     places: &'a [u8; 16],
     resources: &'a [u8; 16],
     uses: &'a [u8; 512],
@@ -113,6 +113,24 @@ pub fn sections_fit<'a>(
         i += 1;
     }
     true
+}
+
+// Whether a state is fit, by its tasks and its open sections.
+pub fn is_fit<'a>(
+    settings: &'a [u8; 32],
+    priorities: &'a [u8; 32],
+    uses: &'a [u8; 512],
+    places: &'a [u8; 16],
+    resources: &'a [u8; 16],
+    tasks: usize,
+    sections: usize,
+) -> bool
+    ensures { λ r. ⌜ r ≡ fit (tasksBy tasks (now (priorities .entry)) (now (settings .entry)) [] (now (uses .entry)))
+        (opening (sectionsBy (now (places .entry)) (now (resources .entry)) sections)) ⌝ }
+{
+    let sound = tasks_fit(settings, priorities, tasks);
+    let placed = sections_fit(places, resources, uses, tasks, sections);
+    sound & placed
 }
 
 // The slot of the first open section of a place and a resource, or 16.

@@ -2,7 +2,7 @@
 ghost use mathlib.Core.Path.{_≡_};
 ghost use Prim.Native.Nat.{_+_, _≤_, _<_};
 ghost use lib.ListN.{length};
-ghost use Rattle.arrays.specs.View.{countOf};
+ghost use Rattle.arrays.specs.View.{countOf, placeOf};
 ghost use Rattle.arrays.specs.Stores.{startedAt, Cleared, Counted, Removed, Woken};
 use crate::marks::one_more;
 use crate::marks::wide;
@@ -32,7 +32,7 @@ pub fn count_one_more(counts: &mut [u8; 512], place: usize, resource: u8, bound:
 
 // The job at a place, if any, is started.
 pub fn start(started: &mut [bool; 32], place: usize)
-    ensures { λ r. ⌜ now (started .exit) ≡ startedAt (now (started .entry)) place ⌝ }
+    ensures { λ r. ⌜ now (started .exit) ≡ startedAt (now (started .entry)) (placeOf place) ⌝ }
 {
     if place < 32 {
         started[place] = true;

@@ -1,6 +1,5 @@
 -- What the machine's checks say of a call, from the scans and tests of the code.
 use mathlib.Core.Path.{_≡_, refl, sym, ap, _∙_}
-use mathlib.Core.List.{[]}
 use mathlib.Core.Bool.{Bool, true, false, not, _&&_}
 use Prim.Native.Nat.{ℕ, _<_, _≤_}
 use native.Mathlib.Omega.{arith}
@@ -8,12 +7,12 @@ use native.Mathlib.Decide.{decLt}
 use lib.Dec.{ltb, eqb}
 use borrow.Author.Tests.{ltb-true}
 use Rattle.protocol.specs.Tasks.{Table}
-use Rattle.protocol.specs.Searches.{Place, nowhere, at, ifHere, first, best}
+use Rattle.protocol.specs.Searches.{Place, nowhere, at, ifHere, first}
 use Rattle.protocol.specs.State.{Entry, holds, isNone}
-use Rattle.protocol.specs.Running.{systemPriority, aboveSystem, running}
+use Rattle.protocol.specs.Running.{aboveSystem, running}
 use Rattle.protocol.specs.Checks.{Call, release, resume, lock, unlock, suspend, complete, Ruling, refuse, grant, demand, found, numbered, checks, releasing, locking, unlocking, suspending, completing}
 use Rattle.protocol.proofs.Granted.{Granted, granted}
-use Rattle.arrays.specs.View.{ranked, jobs, numberIn, eligibleAt, ofPriority, ofNumber, sleeping, placeOf, passing}
+use Rattle.arrays.specs.View.{ranked, jobs, ofPriority, ofNumber, sleeping, placeOf, passing}
 use Rattle.arrays.specs.Rulings.{refusalOf}
 use Rattle.arrays.proofs.Opened.{sections-length}
 use Rattle.scheduler.specs.declared.Scheduler.{Scheduler}
@@ -155,21 +154,18 @@ module _ {s : Scheduler} (Z : Sized s) (F : Fit s) where
       go false = refl
 
   -- The other calls find the running job, if it has the number.
-  pub record Runner (p n i : ℕ) : Type 0 where
-    pub system : ℕ
-    pub runs : ℕ
-    pub level : system ≡ systemPriority (ranked (s .tasks) [] (s .settings)) (jobs (s .states) (s .started))
-    pub place : placeOf runs ≡ best (eligibleAt (s .states) (s .priorities) system) (numberIn (s .priorities)) (s .tasks)
-    pub named : placeOf i ≡ passing (ofNumber (s .priorities) (s .serials) p n) (placeOf runs)
+  pub record Calls (p n i : ℕ) : Type 0 where
+    pub place : placeOf i ≡ passing (ofNumber (s .priorities) (s .serials) p n)
+        (running aboveSystem (ranked (s .tasks) (s .priorities) (s .settings)) (jobs (s .states) (s .started)))
 
-  module _ {p n i : ℕ} (R : Runner p n i) where
+  module _ {p n i : ℕ} (R : Calls p n i) where
     -- so the checks come to its own
     ran : (f : ℕ → Ruling) → found 13 (running aboveSystem (tableOf s) (entryOf s)) (λ j. demand 13 (numbered (tableOf s) (entryOf s) p n j) (f j))
         ≡ found 13 (placeOf i) f
     ran f =
         passing-found 13 (numbered (tableOf s) (entryOf s) p n) (running aboveSystem (tableOf s) (entryOf s)) f
-        ∙ ap (λ q. found 13 (passing (numbered (tableOf s) (entryOf s) p n) q) f) (sym (running-view s (R .system) (R .runs) (R .level) (R .place)))
-        ∙ ap (λ q. found 13 q f) (sym (R .named))
+        ∙ ap (λ q. found 13 (passing (numbered (tableOf s) (entryOf s) p n) q) f) (sym (running-view s))
+        ∙ ap (λ q. found 13 q f) (sym (R .place))
 
     -- those of a lock
     pub lock-found : {r : ℕ} → Found s (lock p n r) 13 i (locking (tableOf s) (entryOf s) (ltb (s .sections) 16) r)

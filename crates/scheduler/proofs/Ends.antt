@@ -2,34 +2,33 @@
 use mathlib.Core.Path.{_≡_, refl, sym, ap, _∙_}
 use mathlib.Core.List.{List, []}
 use mathlib.Core.Bool.{Bool, true, false, not, _&&_}
-use Prim.Native.Nat.{ℕ, _<_}
+use Prim.Native.Nat.{ℕ, _≤_, _<_}
 use native.Mathlib.Omega.{arith}
-use native.Mathlib.Decide.{decLt}
-use lib.Dec.{leb}
 use lib.ListN.{length, length-set}
 use lib.Seq.{getD-set-same, getD-set-other}
-use borrow.Author.Tests.{lt-ltb, le-ltb, eq-eqb, not-true}
+use borrow.Author.Tests.{eq-eqb, not-true}
 use Rattle.protocol.specs.Tasks.{Table}
-use Rattle.protocol.specs.Searches.{Place, nowhere, at, best, all}
+use Rattle.protocol.specs.Searches.{Place, nowhere, at}
 use Rattle.protocol.specs.State.{State}
-use Rattle.protocol.specs.Running.{systemPriority, aboveSystem, running}
-use Rattle.protocol.specs.Fit.{named, fit}
+use Rattle.protocol.specs.Running.{aboveSystem, running}
+use Rattle.protocol.specs.Fit.{fit}
 use Rattle.protocol.specs.Checks.{Call, Ruling, refuse, grant, checks}
 use Rattle.protocol.specs.Acting.{begun, act, start, settle}
 use Rattle.protocol.specs.Step as machine
 use Rattle.protocol.specs.Step.{numberAt, step}
-use Rattle.arrays.specs.View.{entriesBy, ranked, users, jobs, numberIn, eligibleAt, settingBelow, placeOf}
+use Rattle.protocol.proofs.Runner as runner
+use Rattle.arrays.specs.View.{entriesBy, ranked, jobs, placeOf}
 use Rattle.arrays.specs.Stores.{startedAt}
 use Rattle.arrays.specs.Rulings.{refusalOf}
 use Rattle.scheduler.specs.declared.Scheduler.{Scheduler}
 use Rattle.scheduler.specs.declared.Running.{Running}
 use Rattle.scheduler.specs.declared.Reply.{Reply}
 use Rattle.scheduler.specs.View.{Sized, tableOf, entryOf, stateOf}
-use Rattle.scheduler.specs.Replies.{runningOf, written, repliedBy, unfitReply, refusedReply, replied}
+use Rattle.scheduler.specs.Replies.{runningOf, written, repliedBy, unfitReply, runs, refusedReply, withStarted, settledReply, replied}
 use Rattle.scheduler.proofs.Written.{Beside, same-table, beside-self, written-again}
 use Rattle.scheduler.proofs.Settles.{running-settled}
-use Rattle.scheduler.proofs.Storing.{withStarted, stored}
-use Rattle.scheduler.proofs.Viewing.{running-view, number-view, fit-view, Fit}
+use Rattle.scheduler.proofs.Storing.{stored}
+use Rattle.scheduler.proofs.Viewing.{running-view, number-view, fit-view, Fit, Tested}
 
 -- the machine's answer, part by part
 reply-same : (s : Scheduler) (m : machine.Reply) (r : Reply) → r .refusal ≡ m .refusal → r .running ≡ runningOf (m .running)
@@ -45,11 +44,8 @@ unfolding step
 unfit-replied {s} c Z e = reply-same s (step aboveSystem (tableOf s) (stateOf s) c) _ (rw e) (rw (e, e)) (rw e (written-again Z (beside-self s)))
 
 -- so answers the code
-pub unfit-answered : (s : Scheduler) (c : Call) (a b : Bool) → Sized s
-    → a ≡ leb (s .tasks) 32 && all (settingBelow (s .settings) (s .priorities)) (s .tasks)
-    → b ≡ leb (s .tasks) 32 && (leb (s .sections) 16 && named (users (s .tasks) [] (s .uses)) (stateOf s .sections))
-    → not (a && b) ≡ true → unfitReply s ≡ replied s c
-unfit-answered s c a b Z e f h = unfit-replied c Z (sym (fit-view s a b e f) ∙ not-true (a && b) h)
+pub unfit-answered : (s : Scheduler) (c : Call) (b : Bool) → Sized s → Tested s b → not b ≡ true → unfitReply s ≡ replied s c
+unfit-answered s c b Z e h = unfit-replied c Z (sym (fit-view s) ∙ sym e ∙ not-true b h)
 
 -- ---- refused
 
@@ -64,18 +60,11 @@ refused-is : (q : Ruling) (n : ℕ) → refusalOf q ≡ n → 0 < n → q ≡ re
 refused-is (refuse m) n e h = ap refuse e
 refused-is (grant i) n e h = absurd (omega arith)
 
--- The running job and its number, as the code finds them.
-pub record Shows (s : Scheduler) (system runs : ℕ) (x : Running) : Type 0 where
-  pub level : system ≡ systemPriority (ranked (s .tasks) [] (s .settings)) (jobs (s .states) (s .started))
-  pub place : placeOf runs ≡ best (eligibleAt (s .states) (s .priorities) system) (numberIn (s .priorities)) (s .tasks)
-  pub number : x ≡ runningOf (numberAt (ranked 0 (s .priorities) []) (entriesBy [] [] [] [] [] (s .serials)) (placeOf runs))
-
--- they are the machine's
-pub shows : {s : Scheduler} {system runs : ℕ} {x : Running} → Shows s system runs x
-    → x ≡ runningOf (numberAt (tableOf s) (entryOf s) (running aboveSystem (tableOf s) (entryOf s)))
-shows {s} {system} {runs} H =
-    H .number
-    ∙ ap runningOf (number-view s (placeOf runs) ∙ ap (numberAt (tableOf s) (entryOf s)) (running-view s system runs (H .level) (H .place)))
+-- the running job's number, as the code finds it
+pub runs-shown : (s : Scheduler) (i : ℕ) (x : Running)
+    → placeOf i ≡ running aboveSystem (ranked (s .tasks) (s .priorities) (s .settings)) (jobs (s .states) (s .started))
+    → x ≡ runningOf (numberAt (ranked 0 (s .priorities) []) (entriesBy [] [] [] [] [] (s .serials)) (placeOf i)) → x ≡ runs s
+runs-shown s i x p e = e ∙ ap runningOf (number-view s (placeOf i) ∙ ap (numberAt (tableOf s) (entryOf s)) (p ∙ running-view s))
 
 -- a refusal leaves the state as it was, and answers who runs
 pub refused-replied : {s : Scheduler} {c : Call} {n : ℕ} → Asked s c n → 0 < n → refusedReply s n ≡ replied s c
@@ -127,43 +116,49 @@ started-sized started e Z = record {
   resources = Z .resources;
 }
 
--- the running job's mark, set
-started-view : (t : Scheduler) (runs : ℕ) → Sized t
-    → (stateOf (withStarted t (startedAt (t .started) runs)) ≡ start (placeOf runs) (stateOf t)) × (length (startedAt (t .started) runs) ≡ 32)
-started-view t runs Z = go (decLt runs 32)
-  where
-    go : Dec (runs < 32)
-        → (stateOf (withStarted t (startedAt (t .started) runs)) ≡ start (placeOf runs) (stateOf t)) × (length (startedAt (t .started) runs) ≡ 32)
-    go (yes lt) = (
-      rw (lt-ltb runs 32 lt)
-          (ap (λ f. record { entry = f; sections = stateOf t .sections })
-          (stored (entryOf t) _ runs (begun (entryOf t runs))
-          (rw (getD-set-same (t .started) runs true false (omega (arith, Z .started))))
-          (λ k ne. rw (getD-set-other (t .started) runs k true false ne)))),
-      rw (lt-ltb runs 32 lt) (length-set (t .started) runs true ∙ Z .started),
-    )
-    go (no ge) = (rw (le-ltb runs 32 (omega arith)), rw (le-ltb runs 32 (omega arith)) (Z .started))
+-- A place is nowhere, or one in the arrays.
+abbrev Below : Place → Type 0
+Below nowhere = Unit {0}
+Below (at i) = i < 32
+
+-- the mark of a job, set
+started-view : (t : Scheduler) (p : Place) → Sized t → Below p
+    → (stateOf (withStarted t (startedAt (t .started) p)) ≡ start p (stateOf t)) × (length (startedAt (t .started) p) ≡ 32)
+started-view t nowhere Z h = (refl, Z .started)
+started-view t (at i) Z h = (
+  ap (λ f. record { entry = f; sections = stateOf t .sections })
+      (stored (entryOf t) _ i (begun (entryOf t i))
+      (rw (getD-set-same (t .started) i true false (omega (arith, Z .started, h))))
+      (λ k ne. rw (getD-set-other (t .started) i k true false ne))),
+  length-set (t .started) i true ∙ Z .started,
+)
 
 -- a started job has the same number
 number-started : (T : Table) (s : State) (p : Place) → numberAt T (start p s .entry) p ≡ numberAt T (s .entry) p
 number-started T s nowhere = refl
 number-started T s (at i) = rw (eq-eqb i i refl)
 
+-- the running job is one of the tasks
+running-below : (s : Scheduler) → s .tasks ≤ 32 → Below (running aboveSystem (tableOf s) (entryOf s))
+running-below s few = go (running aboveSystem (tableOf s) (entryOf s)) refl
+  where
+    go : (p : Place) → running aboveSystem (tableOf s) (entryOf s) ≡ p → Below p
+    go nowhere e = tt
+    go (at i) e = omega (arith, runner.runs {E = aboveSystem} {T = tableOf s} {s = stateOf s} e .inside)
+
 -- a granted call answers who runs after it, and that job is started
-pub granted-replied : {s t : Scheduler} {c : Call} {i system runs : ℕ} {x : Running} {started : List Bool} → Done s t c i → Shows t system runs x
-    → started ≡ startedAt (t .started) runs → record { refusal = 0; running = x; state = withStarted t started } ≡ replied s c
+pub granted-replied : {s t : Scheduler} {c : Call} {i : ℕ} → Done s t c i → settledReply t ≡ replied s c
 unfolding step
-granted-replied {s} {t} {c} {i} {system} {runs} {x} {started} D H e =
+granted-replied {s} {t} {c} {i} D =
     let f = D .fits .fits in
     let T = tableOf s in
+    let marks = startedAt (t .started) (running aboveSystem (tableOf t) (entryOf t)) in
     let same = same-table (D .beside .same) in
-    let v = started-view t runs (D .sized) in
-    let place : placeOf runs ≡ running aboveSystem T (entryOf t) =
-    running-view t system runs (H .level) (H .place) ∙ ap (λ U. running aboveSystem U (entryOf t)) same in
-    let number : x ≡ runningOf (numberAt T (entryOf t) (running aboveSystem T (entryOf t))) =
-    shows H ∙ ap (λ U. runningOf (numberAt U (entryOf t) (running aboveSystem U (entryOf t)))) same in
-    let next : stateOf (withStarted t (startedAt (t .started) runs)) ≡ settle aboveSystem T (stateOf t) =
-    v .0 ∙ ap (λ p. start p (stateOf t)) place in
+    let few : t .tasks ≤ 32 = omega (arith, D .beside .same .tasks, D .fits .few) in
+    let v = started-view t (running aboveSystem (tableOf t) (entryOf t)) (D .sized) (running-below t few) in
+    let number : runs t ≡ runningOf (numberAt T (entryOf t) (running aboveSystem T (entryOf t))) =
+    ap (λ U. runningOf (numberAt U (entryOf t) (running aboveSystem U (entryOf t)))) same in
+    let next : stateOf (withStarted t marks) ≡ settle aboveSystem T (stateOf t) = v .0 ∙ ap (λ U. settle aboveSystem U (stateOf t)) same in
     let still : numberAt T (settle aboveSystem T (stateOf t) .entry) (running aboveSystem T (settle aboveSystem T (stateOf t) .entry))
     ≡ numberAt T (entryOf t) (running aboveSystem T (entryOf t)) =
     ap (numberAt T (settle aboveSystem T (stateOf t) .entry)) (running-settled T (D .fits .below) (stateOf t))
@@ -171,6 +166,5 @@ granted-replied {s} {t} {c} {i} {system} {runs} {x} {started} D H e =
     reply-same s (step aboveSystem T (stateOf s) c) _
     (rw (f, D .grants))
     (rw (f, D .grants, ← D .acts) (number ∙ ap runningOf (sym still)))
-    (rw (f, D .grants, ← D .acts, e)
-    (written-again (started-sized (startedAt (t .started) runs) (v .1) (D .sized)) (starts-beside (startedAt (t .started) runs) (D .beside))
-    ∙ ap (written s) next))
+    (rw (f, D .grants, ← D .acts)
+    (written-again (started-sized marks (v .1) (D .sized)) (starts-beside marks (D .beside)) ∙ ap (written s) next))

@@ -47,10 +47,6 @@ withSections s n places resources = record {
   resources = resources;
 }
 
--- the scheduler s with these started marks
-abbrev pub withStarted : Scheduler → List Bool → Scheduler
-withStarted s started = withEntries s (s .states) started (s .sleeps) (s .opened) (s .held) (s .serials)
-
 -- what differs at the place i alone is the new entry put there
 pub stored : (f g : ℕ → Entry) (i : ℕ) (e : Entry) → g i ≡ e → ((k : ℕ) → (k ≡ i → ⊥) → g k ≡ f k) → g ≡ put f i e
 stored f g i e new old = fun-ext (λ k. go k (ℕ-discrete k i))

@@ -1,5 +1,5 @@
 -- What the scans answer is the machine's, on the whole view.
-use mathlib.Core.Path.{_≡_, refl, sym, subst, _∙_}
+use mathlib.Core.Path.{_≡_, refl, sym, _∙_}
 use mathlib.Core.List.{[]}
 use mathlib.Core.Bool.{Bool, true, false, not, _&&_}
 use Prim.Native.Nat.{ℕ, zero, suc, _≤_, _<_}
@@ -9,12 +9,12 @@ use lib.Dec.{ltb, leb}
 use lib.ListN.{length}
 use borrow.Author.Tests.{ltb-true, leb-true, lt-ltb, le-ltb, not-false}
 use Rattle.protocol.specs.Tasks.{priority, setting}
-use Rattle.protocol.specs.Searches.{Place, nowhere, at, best, all}
+use Rattle.protocol.specs.Searches.{Place, nowhere, at, all}
 use Rattle.protocol.specs.Running.{ceiling, systemPriority, systemCeiling, aboveSystem, running}
 use Rattle.protocol.specs.Fit.{named, fit}
 use Rattle.protocol.specs.Step.{numberAt}
 use Rattle.protocol.proofs.Testing.{and-true}
-use Rattle.arrays.specs.View.{entriesBy, lastOpen, ranked, users, jobs, numberIn, eligibleAt, settingBelow, placeOf}
+use Rattle.arrays.specs.View.{tasksBy, entriesBy, sectionsBy, opening, lastOpen, ranked, users, jobs, placeOf}
 use Rattle.arrays.proofs.Opened.{sections-length, fit-tested, last-ceiling}
 use Rattle.scheduler.specs.declared.Scheduler.{Scheduler}
 use Rattle.scheduler.specs.View.{tableOf, entryOf, stateOf}
@@ -33,11 +33,10 @@ no-place i le = rw (le-ltb i 32 le)
 
 module _ (s : Scheduler) where
   -- the running job
-  pub running-view : (system runs : ℕ) → system ≡ systemPriority (ranked (s .tasks) [] (s .settings)) (jobs (s .states) (s .started))
-      → placeOf runs ≡ best (eligibleAt (s .states) (s .priorities) system) (numberIn (s .priorities)) (s .tasks)
-      → placeOf runs ≡ running aboveSystem (tableOf s) (entryOf s)
+  pub running-view : running aboveSystem (ranked (s .tasks) (s .priorities) (s .settings)) (jobs (s .states) (s .started))
+      ≡ running aboveSystem (tableOf s) (entryOf s)
   unfolding running systemPriority
-  running-view system runs e = subst (λ x. placeOf runs ≡ best (eligibleAt (s .states) (s .priorities) x) (numberIn (s .priorities)) (s .tasks)) e
+  running-view = refl
 
   -- its number
   pub number-view : (p : Place) → numberAt (ranked 0 (s .priorities) []) (entriesBy [] [] [] [] [] (s .serials)) p
@@ -51,11 +50,11 @@ module _ (s : Scheduler) where
   ceiling-view = last-ceiling (s .tasks) (s .priorities) (s .settings) (s .most) (s .uses) (s .places) (s .resources) (s .sections)
 
   -- whether the state is fit
-  pub fit-view : (a b : Bool) → a ≡ leb (s .tasks) 32 && all (settingBelow (s .settings) (s .priorities)) (s .tasks)
-      → b ≡ leb (s .tasks) 32 && (leb (s .sections) 16 && named (users (s .tasks) [] (s .uses)) (stateOf s .sections))
-      → a && b ≡ fit (tableOf s) (stateOf s)
-  fit-view a b e f =
-      rw (e, f) (sym (fit-tested (s .tasks) (s .priorities) (s .settings) (s .most) (s .uses) (s .places) (s .resources) (entryOf s) (s .sections)))
+  pub fit-view : fit (tasksBy (s .tasks) (s .priorities) (s .settings) [] (s .uses)) (opening (sectionsBy (s .places) (s .resources) (s .sections)))
+      ≡ fit (tableOf s) (stateOf s)
+  fit-view =
+      fit-tested (s .tasks) (s .priorities) (s .settings) [] (s .uses) (s .places) (s .resources) (opening [] .entry) (s .sections)
+      ∙ sym (fit-tested (s .tasks) (s .priorities) (s .settings) (s .most) (s .uses) (s .places) (s .resources) (entryOf s) (s .sections))
 
 -- ---- a fit state
 
@@ -93,8 +92,11 @@ fit-known s e =
       fits = e;
     }
 
+-- The code's test of the scheduler s came to b.
+abbrev pub Tested : Scheduler → Bool → Type 0
+Tested s b =
+    b ≡ fit (tasksBy (s .tasks) (s .priorities) (s .settings) [] (s .uses)) (opening (sectionsBy (s .places) (s .resources) (s .sections)))
+
 -- so says the code's
-pub fit-passed : (s : Scheduler) (a b : Bool) → a ≡ leb (s .tasks) 32 && all (settingBelow (s .settings) (s .priorities)) (s .tasks)
-    → b ≡ leb (s .tasks) 32 && (leb (s .sections) 16 && named (users (s .tasks) [] (s .uses)) (stateOf s .sections))
-    → not (a && b) ≡ false → Fit s
-fit-passed s a b e f h = fit-known s (sym (fit-view s a b e f) ∙ not-false (a && b) h)
+pub fit-passed : (s : Scheduler) (b : Bool) → Tested s b → not b ≡ false → Fit s
+fit-passed s b e h = fit-known s (sym (fit-view s) ∙ sym e ∙ not-false b h)

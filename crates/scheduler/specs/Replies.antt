@@ -12,6 +12,7 @@ use Rattle.protocol.specs.Acting.{section}
 use Rattle.protocol.specs.Step as machine
 use Rattle.table.specs.Indexed.{every}
 use Rattle.arrays.specs.View.{statusOf, ownNumber}
+use Rattle.arrays.specs.Stores.{startedAt}
 use Rattle.scheduler.specs.declared.Scheduler.{Scheduler}
 use Rattle.scheduler.specs.declared.Running.{Running}
 use Rattle.scheduler.specs.declared.Reply.{Reply}
@@ -67,12 +68,41 @@ repliedBy s m = record { refusal = m .refusal; running = runningOf (m .running);
 abbrev pub unfitReply : Scheduler → Reply
 unfitReply s = record { refusal = 26; running = Running.Idle; state = s }
 
+-- who runs
+abbrev pub runs : Scheduler → Running
+runs s = runningOf (machine.numberAt (tableOf s) (entryOf s) (running aboveSystem (tableOf s) (entryOf s)))
+
 -- a refused call answers who runs, and leaves the state as it is
 abbrev pub refusedReply : Scheduler → ℕ → Reply
-refusedReply s n = record {
-  refusal = n;
-  running = runningOf (machine.numberAt (tableOf s) (entryOf s) (running aboveSystem (tableOf s) (entryOf s)));
-  state = s;
+refusedReply s n = record { refusal = n; running = runs s; state = s }
+
+-- ---- what an accepted call answers, after its stores
+
+-- the scheduler s with these started marks
+abbrev pub withStarted : Scheduler → List Bool → Scheduler
+withStarted s started = record {
+  tasks = s .tasks;
+  sections = s .sections;
+  priorities = s .priorities;
+  settings = s .settings;
+  most = s .most;
+  uses = s .uses;
+  states = s .states;
+  started = started;
+  sleeps = s .sleeps;
+  opened = s .opened;
+  held = s .held;
+  serials = s .serials;
+  places = s .places;
+  resources = s .resources;
+}
+
+-- it answers who runs now, and that job is started
+abbrev pub settledReply : Scheduler → Reply
+settledReply s = record {
+  refusal = 0;
+  running = runs s;
+  state = withStarted s (startedAt (s .started) (running aboveSystem (tableOf s) (entryOf s)));
 }
 
 -- ---- the reply to a call

@@ -5,24 +5,19 @@ ghost use Rattle.scheduler.specs.Replies.{replied};
 use crate::Number;
 use crate::Reply;
 use crate::Scheduler;
-use crate::number_at;
 use arrays::admitted;
+use arrays::caller;
 use arrays::ceiling;
 use arrays::clear;
 use arrays::complete_rule;
+use arrays::is_fit;
 use arrays::last_open;
 use arrays::next_serial;
-use arrays::numbered;
 use arrays::one_more;
 use arrays::place_of_priority;
 use arrays::release_rule;
-use arrays::running_place;
-use arrays::sections_fit;
 use arrays::sleeper;
-use arrays::start;
 use arrays::suspend_rule;
-use arrays::system_priority;
-use arrays::tasks_fit;
 
 impl Scheduler {
     // A job begins: ready if its priority is above the system ceiling, else waiting.
@@ -31,9 +26,16 @@ impl Scheduler {
     {
         let tasks = self.tasks;
         let sections = self.sections;
-        let sound = tasks_fit(&self.settings, &self.priorities, tasks);
-        let placed = sections_fit(&self.places, &self.resources, &self.uses, tasks, sections);
-        if !(sound & placed) {
+        let fit = is_fit(
+            &self.settings,
+            &self.priorities,
+            &self.uses,
+            &self.places,
+            &self.resources,
+            tasks,
+            sections,
+        );
+        if !fit {
             return self.unfit();
         }
         let at = place_of_priority(&self.priorities, tasks, priority);
@@ -48,15 +50,7 @@ impl Scheduler {
         self.sleeps[at] = 0;
         self.serials[at] = next_serial(self.serials[at]);
         clear(&mut self.opened, at);
-        let system = system_priority(&self.states, &self.started, &self.settings, tasks);
-        let next = running_place(&self.states, &self.priorities, tasks, system);
-        let running = number_at(&self.priorities, &self.serials, next);
-        start(&mut self.started, next);
-        Reply {
-            refusal: 0,
-            running: running,
-            state: self,
-        }
+        self.settled()
     }
 
     // A sleeping job wakes: ready if its priority is above the system ceiling, else waiting.
@@ -65,9 +59,16 @@ impl Scheduler {
     {
         let tasks = self.tasks;
         let sections = self.sections;
-        let sound = tasks_fit(&self.settings, &self.priorities, tasks);
-        let placed = sections_fit(&self.places, &self.resources, &self.uses, tasks, sections);
-        if !(sound & placed) {
+        let fit = is_fit(
+            &self.settings,
+            &self.priorities,
+            &self.uses,
+            &self.places,
+            &self.resources,
+            tasks,
+            sections,
+        );
+        if !fit {
             return self.unfit();
         }
         let at = sleeper(&self.states, &self.priorities, &self.serials, tasks, job);
@@ -77,15 +78,7 @@ impl Scheduler {
         let last = last_open(&self.resources, sections);
         let ceiling = ceiling(&self.uses, &self.priorities, tasks, last);
         self.states[at] = admitted(ceiling, self.priorities[at]);
-        let system = system_priority(&self.states, &self.started, &self.settings, tasks);
-        let next = running_place(&self.states, &self.priorities, tasks, system);
-        let running = number_at(&self.priorities, &self.serials, next);
-        start(&mut self.started, next);
-        Reply {
-            refusal: 0,
-            running: running,
-            state: self,
-        }
+        self.settled()
     }
 
     // The running job falls asleep.
@@ -94,29 +87,34 @@ impl Scheduler {
     {
         let tasks = self.tasks;
         let sections = self.sections;
-        let sound = tasks_fit(&self.settings, &self.priorities, tasks);
-        let placed = sections_fit(&self.places, &self.resources, &self.uses, tasks, sections);
-        if !(sound & placed) {
+        let fit = is_fit(
+            &self.settings,
+            &self.priorities,
+            &self.uses,
+            &self.places,
+            &self.resources,
+            tasks,
+            sections,
+        );
+        if !fit {
             return self.unfit();
         }
-        let system = system_priority(&self.states, &self.started, &self.settings, tasks);
-        let runs = running_place(&self.states, &self.priorities, tasks, system);
-        let at = numbered(&self.priorities, &self.serials, runs, job);
+        let at = caller(
+            &self.states,
+            &self.started,
+            &self.settings,
+            &self.priorities,
+            &self.serials,
+            tasks,
+            job,
+        );
         let refusal = suspend_rule(&self.held, &self.sleeps, &self.most, at);
         if 0 < refusal {
             return self.refused(refusal);
         }
         self.states[at] = 3;
         self.sleeps[at] = one_more(self.sleeps[at], self.most[at]);
-        let system = system_priority(&self.states, &self.started, &self.settings, tasks);
-        let next = running_place(&self.states, &self.priorities, tasks, system);
-        let running = number_at(&self.priorities, &self.serials, next);
-        start(&mut self.started, next);
-        Reply {
-            refusal: 0,
-            running: running,
-            state: self,
-        }
+        self.settled()
     }
 
     // The running job ends: no job.
@@ -125,27 +123,32 @@ impl Scheduler {
     {
         let tasks = self.tasks;
         let sections = self.sections;
-        let sound = tasks_fit(&self.settings, &self.priorities, tasks);
-        let placed = sections_fit(&self.places, &self.resources, &self.uses, tasks, sections);
-        if !(sound & placed) {
+        let fit = is_fit(
+            &self.settings,
+            &self.priorities,
+            &self.uses,
+            &self.places,
+            &self.resources,
+            tasks,
+            sections,
+        );
+        if !fit {
             return self.unfit();
         }
-        let system = system_priority(&self.states, &self.started, &self.settings, tasks);
-        let runs = running_place(&self.states, &self.priorities, tasks, system);
-        let at = numbered(&self.priorities, &self.serials, runs, job);
+        let at = caller(
+            &self.states,
+            &self.started,
+            &self.settings,
+            &self.priorities,
+            &self.serials,
+            tasks,
+            job,
+        );
         let refusal = complete_rule(&self.held, at);
         if 0 < refusal {
             return self.refused(refusal);
         }
         self.states[at] = 0;
-        let system = system_priority(&self.states, &self.started, &self.settings, tasks);
-        let next = running_place(&self.states, &self.priorities, tasks, system);
-        let running = number_at(&self.priorities, &self.serials, next);
-        start(&mut self.started, next);
-        Reply {
-            refusal: 0,
-            running: running,
-            state: self,
-        }
+        self.settled()
     }
 }

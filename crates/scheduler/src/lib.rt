@@ -4,7 +4,7 @@ ghost use mathlib.Core.List.{[]};
 ghost use Prim.Native.Nat.{_≤_};
 ghost use Rattle.protocol.specs.Step.{numberAt};
 ghost use Rattle.arrays.specs.View.{ranked, entriesBy, placeOf};
-ghost use Rattle.scheduler.specs.Replies.{runningOf, unfitReply, refusedReply};
+ghost use Rattle.scheduler.specs.Replies.{runningOf, unfitReply, refusedReply, settledReply};
 
 mod jobs;
 mod sections;
@@ -13,7 +13,7 @@ mod setup;
 pub use arrays::Number;
 use arrays::last_serial;
 use arrays::running_place;
-use arrays::system_priority;
+use arrays::start;
 pub use setup::SetUp;
 pub use setup::set_up;
 
@@ -83,11 +83,37 @@ impl Scheduler {
         requires { ⌜ self .tasks ≤ 32 ⌝ }
         ensures { λ r. ⌜ r ≡ refusedReply self refusal ⌝ }
     {
-        let system = system_priority(&self.states, &self.started, &self.settings, self.tasks);
-        let runs = running_place(&self.states, &self.priorities, self.tasks, system);
+        let runs = running_place(
+            &self.states,
+            &self.started,
+            &self.settings,
+            &self.priorities,
+            self.tasks,
+        );
         let running = number_at(&self.priorities, &self.serials, runs);
         Reply {
             refusal: refusal,
+            running: running,
+            state: self,
+        }
+    }
+
+    // The answer of an accepted call, after its stores: who runs now, and that job is started.
+    fn settled(mut self) -> Reply
+        requires { ⌜ self .tasks ≤ 32 ⌝ }
+        ensures { λ r. ⌜ r ≡ settledReply self ⌝ }
+    {
+        let runs = running_place(
+            &self.states,
+            &self.started,
+            &self.settings,
+            &self.priorities,
+            self.tasks,
+        );
+        let running = number_at(&self.priorities, &self.serials, runs);
+        start(&mut self.started, runs);
+        Reply {
+            refusal: 0,
             running: running,
             state: self,
         }

@@ -5,21 +5,16 @@ ghost use Rattle.scheduler.specs.Replies.{replied};
 use crate::Number;
 use crate::Reply;
 use crate::Scheduler;
-use crate::number_at;
+use arrays::caller;
 use arrays::ceiling;
 use arrays::count_at;
 use arrays::count_if;
 use arrays::count_one_more;
+use arrays::is_fit;
 use arrays::last_open;
 use arrays::lock_rule;
-use arrays::numbered;
 use arrays::remove;
-use arrays::running_place;
 use arrays::section_at;
-use arrays::sections_fit;
-use arrays::start;
-use arrays::system_priority;
-use arrays::tasks_fit;
 use arrays::unlock_rule;
 use arrays::wake;
 
@@ -30,14 +25,27 @@ impl Scheduler {
     {
         let tasks = self.tasks;
         let sections = self.sections;
-        let sound = tasks_fit(&self.settings, &self.priorities, tasks);
-        let placed = sections_fit(&self.places, &self.resources, &self.uses, tasks, sections);
-        if !(sound & placed) {
+        let fit = is_fit(
+            &self.settings,
+            &self.priorities,
+            &self.uses,
+            &self.places,
+            &self.resources,
+            tasks,
+            sections,
+        );
+        if !fit {
             return self.unfit();
         }
-        let system = system_priority(&self.states, &self.started, &self.settings, tasks);
-        let runs = running_place(&self.states, &self.priorities, tasks, system);
-        let at = numbered(&self.priorities, &self.serials, runs, job);
+        let at = caller(
+            &self.states,
+            &self.started,
+            &self.settings,
+            &self.priorities,
+            &self.serials,
+            tasks,
+            job,
+        );
         let refusal = lock_rule(&self.uses, &self.opened, &self.held, sections, at, resource);
         if 0 < refusal {
             return self.refused(refusal);
@@ -48,15 +56,7 @@ impl Scheduler {
         self.places[sections] = at as u8;
         self.resources[sections] = resource;
         self.sections = sections + 1;
-        let system = system_priority(&self.states, &self.started, &self.settings, tasks);
-        let next = running_place(&self.states, &self.priorities, tasks, system);
-        let running = number_at(&self.priorities, &self.serials, next);
-        start(&mut self.started, next);
-        Reply {
-            refusal: 0,
-            running: running,
-            state: self,
-        }
+        self.settled()
     }
 
     // The running job closes its section, and then every waiting job above the new ceiling is ready. Where no such section is open it only frees
@@ -66,14 +66,27 @@ impl Scheduler {
     {
         let tasks = self.tasks;
         let sections = self.sections;
-        let sound = tasks_fit(&self.settings, &self.priorities, tasks);
-        let placed = sections_fit(&self.places, &self.resources, &self.uses, tasks, sections);
-        if !(sound & placed) {
+        let fit = is_fit(
+            &self.settings,
+            &self.priorities,
+            &self.uses,
+            &self.places,
+            &self.resources,
+            tasks,
+            sections,
+        );
+        if !fit {
             return self.unfit();
         }
-        let system = system_priority(&self.states, &self.started, &self.settings, tasks);
-        let runs = running_place(&self.states, &self.priorities, tasks, system);
-        let at = numbered(&self.priorities, &self.serials, runs, job);
+        let at = caller(
+            &self.states,
+            &self.started,
+            &self.settings,
+            &self.priorities,
+            &self.serials,
+            tasks,
+            job,
+        );
         let refusal = unlock_rule(&self.held, at, resource);
         if 0 < refusal {
             return self.refused(refusal);
@@ -89,14 +102,6 @@ impl Scheduler {
         let priorities = self.priorities;
         let waking = count_if(slot < sections, tasks);
         wake(&mut self.states, &priorities, waking, ceiling);
-        let system = system_priority(&self.states, &self.started, &self.settings, tasks);
-        let next = running_place(&self.states, &self.priorities, tasks, system);
-        let running = number_at(&self.priorities, &self.serials, next);
-        start(&mut self.started, next);
-        Reply {
-            refusal: 0,
-            running: running,
-            state: self,
-        }
+        self.settled()
     }
 }

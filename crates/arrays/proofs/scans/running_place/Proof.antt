@@ -1,37 +1,48 @@
 -- `arrays::scans::running_place` meets its contract.
 use Prim.Native.Nat.{_-_, _≤_}
 use borrow.Author.Needs.{needs}
-use mathlib.Core.Path.{_≡_}
+use mathlib.Core.Path.{_≡_, refl}
 use native.Mathlib.Omega.{arith}
-use Rattle.protocol.specs.Searches.{best}
-use Rattle.protocol.specs.Checks.{found}
-use Rattle.arrays.specs.View.{numberIn, eligibleAt}
-use Rattle.arrays.proofs.Turns.{Stands, stands-none, stands-on}
+use Rattle.protocol.specs.Searches.{best, largest}
+use Rattle.arrays.proofs.Turns.{startedSetting, largest-on, numberIn, readyIn, Stands, stands-none, stands-on, running-found}
 use Rattle.arrays.proofs.scans.running_place.Statement.{statement}
 use Rattle.arrays.proofs.scans.running_place.Tie as tie
 
 abbrev Inv-loop : tie.InvT-loop
-Inv-loop states priorities tasks system found₀ i₀ found i =
-    (i ≤ tasks) × Stands (numberIn priorities) (best (eligibleAt states priorities system) (numberIn priorities) i) found
+Inv-loop states started settings priorities tasks system₀ found₀ i₀ system found i =
+    (i ≤ tasks) × (system ≡ largest (startedSetting states started settings) i)
+    × Stands (numberIn priorities) (best (readyIn states) (numberIn priorities) i) found
 
 abbrev μ-loop : tie.MeasureT-loop
-μ-loop states priorities tasks system found₀ i₀ found i = tasks - i
+μ-loop states started settings priorities tasks system₀ found₀ i₀ system found i = tasks - i
 
 loop-holds : tie.Need-loop-holds Inv-loop μ-loop
-loop-holds c = (
-  omega arith,
-  stands-none (eligibleAt (c .args .states .now) (c .args .priorities .now) (c .args .system))
-      (numberIn (c .args .priorities .now)),
-)
+unfolding largest
+loop-holds c = (omega arith, refl, stands-none (readyIn (c .args .states .now)) (numberIn (c .args .priorities .now)))
 
-element-copy-out-p : tie.Need-element-copy-out-p Inv-loop μ-loop
-element-copy-out-p c = omega arith
+element-copy-out-state : tie.Need-element-copy-out-state Inv-loop μ-loop
+element-copy-out-state c = omega arith
 
-element-copy-out-is-ready : tie.Need-element-copy-out-is-ready Inv-loop μ-loop
-element-copy-out-is-ready c = omega arith
+element-copy-out-counts : tie.Need-element-copy-out-counts Inv-loop μ-loop
+element-copy-out-counts c = omega arith
+
+is-unfinished-requires : tie.Need-is-unfinished-requires Inv-loop μ-loop
+is-unfinished-requires c κs = search needs
+
+element-copy-out-only-if : tie.Need-element-copy-out-only-if Inv-loop μ-loop
+element-copy-out-only-if c = omega arith
+
+only-if-requires : tie.Need-only-if-requires Inv-loop μ-loop
+only-if-requires c κs = search needs
+
+larger-requires : tie.Need-larger-requires Inv-loop μ-loop
+larger-requires c κs = search needs
 
 is-ready-requires : tie.Need-is-ready-requires Inv-loop μ-loop
 is-ready-requires c κs = search needs
+
+element-copy-out-better : tie.Need-element-copy-out-better Inv-loop μ-loop
+element-copy-out-better c = omega arith
 
 better-requires : tie.Need-better-requires Inv-loop μ-loop
 better-requires c κs = search needs
@@ -43,19 +54,22 @@ loop-less : tie.Need-loop-less Inv-loop μ-loop
 loop-less c = omega arith
 
 loop-again : tie.Need-loop-again Inv-loop μ-loop
-loop-again c =
-    let turn = c .before .before .before .before .before in
-    let entry = turn .before in (
-      omega arith,
-      rw (c .better .ensures, c .before .is-ready .ensures)
-          (stands-on (eligibleAt (entry .args .states .now) (entry .args .priorities .now) (entry .args .system))
-          (numberIn (entry .args .priorities .now)) (turn .loop .i) (turn .loop .found) (omega arith) (turn .loop .inv .1)),
-    )
+loop-again c = (
+  omega arith,
+  largest-on (startedSetting (c .before .before .before .before .before .before .before .before .before .before .before .args .states .now) (c .before .before .before .before .before .before .before .before .before .before .before .args .started .now) (c .before .before .before .before .before .before .before .before .before .before .before .args .settings .now)) (c .before .before .before .before .before .before .before .before .before .before .loop .i) _
+      (rw (c .before .before .before .larger .ensures, c .before .before .before .before .only-if .ensures, c .before .before .before .before .before .before .is-unfinished .ensures, c .before .before .before .before .before .before .before .before .before .before .loop .inv .1)),
+  rw (c .better .ensures, c .before .before .is-ready .ensures)
+      (stands-on (readyIn (c .before .before .before .before .before .before .before .before .before .before .before .args .states .now)) (numberIn (c .before .before .before .before .before .before .before .before .before .before .before .args .priorities .now)) (c .before .before .before .before .before .before .before .before .before .before .loop .i) (c .before .before .before .before .before .before .before .before .before .before .loop .found) (omega arith) (c .before .before .before .before .before .before .before .before .before .before .loop .inv .2)),
+)
+
+place-above-requires : tie.Need-place-above-requires Inv-loop μ-loop
+place-above-requires c κs = search needs
 
 returns : tie.Need-returns Inv-loop μ-loop
-returns c =
-    let entry = c .before .before in
-    let e : c .before .loop .i ≡ entry .args .tasks = omega arith in rw (← e) (c .before .loop .inv .1 .place)
+returns c = let e : c .before .before .loop .i ≡ c .before .before .before .args .tasks = omega arith in
+    rw (← e, c .place-above .ensures)
+    (running-found (c .before .before .before .args .states .now) (c .before .before .before .args .started .now) (c .before .before .before .args .settings .now) (c .before .before .before .args .priorities .now) (c .before .before .loop .i) (c .before .before .loop .system)
+    (c .before .before .loop .found) (c .before .before .loop .inv .1) (c .before .before .loop .inv .2))
 
 pub running-place-spec : {M : Type 1} → statement M
 running-place-spec =
@@ -64,11 +78,17 @@ running-place-spec =
     Inv-loop
     μ-loop
     loop-holds
-    element-copy-out-p
-    element-copy-out-is-ready
+    element-copy-out-state
+    element-copy-out-counts
+    is-unfinished-requires
+    element-copy-out-only-if
+    only-if-requires
+    larger-requires
     is-ready-requires
+    element-copy-out-better
     better-requires
     add-i
     loop-less
     loop-again
+    place-above-requires
     returns)

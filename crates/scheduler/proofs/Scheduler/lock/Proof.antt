@@ -1,97 +1,74 @@
 -- `scheduler::Scheduler::lock` meets its contract.
 use borrow.Author.Needs.{needs}
-use lib.Dec.{ltb}
 use mathlib.Core.Path.{_∙_}
 use native.Mathlib.Omega.{arith}
-use Rattle.protocol.specs.Checks.{lock, locking}
+use Rattle.protocol.specs.Checks.{Call, lock, locking}
+use Rattle.scheduler.specs.declared.Scheduler.{Scheduler}
 use Rattle.scheduler.specs.View.{tableOf, entryOf}
 use Rattle.scheduler.proofs.Sizes.{sized}
 use Rattle.scheduler.proofs.Viewing.{Fit, fit-passed}
 use Rattle.scheduler.proofs.Ends.{unfit-answered, refused-replied, granted-replied}
 use Rattle.scheduler.proofs.Asking.{Found, asked, Grants, grants, lock-found, locking-ruled, lock-room}
-use Rattle.scheduler.proofs.Opening.{lock-slot, lock-done}
+use lib.Dec.{ltb}
 use Rattle.arrays.proofs.Numbers.{count-range}
+use Rattle.scheduler.proofs.Opening.{lock-slot, lock-done}
 use Rattle.scheduler.proofs.Scheduler.lock.Statement.{statement}
 use Rattle.scheduler.proofs.Scheduler.lock.Tie as tie
 
 -- where the call begins
 abbrev begun : tie.Else1 → tie.Start
-begun c = c .before .before .before .before .before .before .before .before .before .before
+begun c = c .before .before .before .before .before .before .before .before
 
 -- where the state is found fit
 abbrev entered : tie.After-lock-rule → tie.Else1
-entered c =
-    c .before .before .before .before .before .before .before .before .before
-    .before .before .before .before .before .before .before .before .before
+entered c = c .before .before .before .before .before .before .before .before .before .before .before .before
+
+-- the scheduler that the call is made on
+abbrev given : tie.After-lock-rule → Scheduler
+given c = begun (entered c) .args .t1
+
+-- the call itself
+abbrev asks : tie.After-lock-rule → Call
+asks c = lock (begun (entered c) .args .job .priority) (begun (entered c) .args .job .serial) (begun (entered c) .args .resource)
 
 -- the state is fit
 fitting : (c : tie.Else1) → Fit (begun c .args .t1)
-fitting c =
-    let at-tasks-fit = c .before .before .before .before .before .before in
-    let entry = at-tasks-fit .before .before .before .before in
-    fit-passed (entry .args .t1) (at-tasks-fit .tasks-fit .result) (c .before .sections-fit .result) (at-tasks-fit .tasks-fit .ensures)
-    (c .before .sections-fit .ensures) (c .if1 .left)
+fitting c = fit-passed (begun c .args .t1) (c .before .is-fit .result) (c .before .is-fit .ensures) (c .if1 .left)
 
 -- what the checks come to
-ruling : (c : tie.After-lock-rule) → Found (begun (entered c) .args .t1)
-    (lock (begun (entered c) .args .job .priority) (begun (entered c) .args .job .serial) (begun (entered c) .args .resource)) 13
-    (c .before .before .before .before .before .numbered .result) (locking (tableOf (begun (entered c) .args .t1))
-    (entryOf (begun (entered c) .args .t1)) (ltb (begun (entered c) .args .t1 .sections) 16) (begun (entered c) .args .resource))
+ruling : (c : tie.After-lock-rule) → Found (given c) (asks c) 13
+    (c .before .before .before .before .before .caller .result)
+    (locking (tableOf (given c)) (entryOf (given c)) (ltb (given c .sections) 16) (begun (entered c) .args .resource))
 ruling c =
-    let at-numbered = c .before .before .before .before .before in
-    let at-running-place = at-numbered .before .before .before .before in
-    let at-system-priority = at-running-place .before .before .before .before in
-    let fitted = at-system-priority .before .before .before .before .before in
-    let entry = fitted .before .before .before .before .before .before .before .before .before .before in
-    lock-found (sized (entry .args .t1) (entry .good .0)) (fitting fitted)
-    (record {
-      system = at-system-priority .system-priority .result;
-      runs = at-running-place .running-place .result;
-      level = at-system-priority .system-priority .ensures;
-      place = at-running-place .running-place .ensures;
-      named = at-numbered .numbered .ensures;
-    })
+    lock-found (sized (given c) (begun (entered c) .good .0)) (fitting (entered c))
+    (record { place = c .before .before .before .before .before .caller .ensures })
 
 -- the call is granted
-granting : (c : tie.Else2) → Grants (begun (entered (c .before)) .args .t1)
-    (lock (begun (entered (c .before)) .args .job .priority) (begun (entered (c .before)) .args .job .serial)
-    (begun (entered (c .before)) .args .resource)) (c .before .before .before .before .before .before .numbered .result)
+granting : (c : tie.Else2) → Grants (given (c .before)) (asks (c .before)) (c .before .before .before .before .before .before .caller .result)
 granting c =
-    grants (ruling (c .before)) (omega arith) (locking-ruled (tableOf (begun (entered (c .before)) .args .t1))
-    (entryOf (begun (entered (c .before)) .args .t1)) (ltb (begun (entered (c .before)) .args .t1 .sections) 16)
-    (begun (entered (c .before)) .args .resource)) (c .before .lock-rule .ensures) (c .if2 .left)
+    grants (ruling (c .before)) (omega arith)
+    (locking-ruled (tableOf (given (c .before))) (entryOf (given (c .before)))
+    (ltb (given (c .before) .sections) 16) (begun (entered (c .before)) .args .resource))
+    (c .before .lock-rule .ensures) (c .if2 .left)
 
-tasks-fit-requires : tie.Need-tasks-fit-requires
-tasks-fit-requires c κs = search needs
-
-sections-fit-requires : tie.Need-sections-fit-requires
-sections-fit-requires c κs = search needs
+is-fit-requires : tie.Need-is-fit-requires
+is-fit-requires c κs = search needs
 
 unfit-requires : tie.Need-unfit-requires
 unfit-requires c κs = search needs
 
 returns : tie.Need-returns
 returns c =
-    let at-sections-fit = c .before .before in
-    let at-tasks-fit = at-sections-fit .before .before .before .before .before in
-    let entry = at-tasks-fit .before .before .before .before in
-    c .unfit .ensures ∙ unfit-answered (entry .args .t1) (lock (entry .args .job .priority) (entry .args .job .serial)
-    (entry .args .resource)) (at-tasks-fit .tasks-fit .result) (at-sections-fit .sections-fit .result)
-    (sized (entry .args .t1) (entry .good .0)) (at-tasks-fit .tasks-fit .ensures) (at-sections-fit .sections-fit .ensures)
-    (c .before .if1 .taken)
+    let entry = c .before .before .before .before .before .before .before .before .before in
+    c .unfit .ensures ∙
+    unfit-answered (entry .args .t1) (lock (entry .args .job .priority) (entry .args .job .serial) (entry .args .resource))
+    (c .before .before .is-fit .result)
+    (sized (entry .args .t1) (entry .good .0)) (c .before .before .is-fit .ensures) (c .before .if1 .taken)
 
-system-priority-requires : tie.Need-system-priority-requires
-system-priority-requires c κs =
-    let fitted = c .before .before .before .before in
+caller-requires : tie.Need-caller-requires
+caller-requires c κs =
+    let fitted = c .before .before .before .before .before .before in
     fitting fitted .few
-
-running-place-requires : tie.Need-running-place-requires
-running-place-requires c κs =
-    let fitted = c .before .before .before .before .before .before .before .before in
-    fitting fitted .few
-
-numbered-requires : tie.Need-numbered-requires
-numbered-requires c κs = search needs
 
 lock-rule-requires : tie.Need-lock-rule-requires
 lock-rule-requires c κs = search needs
@@ -100,27 +77,22 @@ refused-requires : tie.Need-refused-requires
 refused-requires c κs = ruling (c .before) .fits .few
 
 returns-2 : tie.Need-returns-2
-returns-2 c =
-    let ruled = c .before .before in
-    c .refused .ensures ∙ refused-replied (asked (ruling ruled) (ruled .lock-rule .ensures)) (c .before .if2 .taken)
+returns-2 c = c .refused .ensures ∙
+    refused-replied (asked (ruling (c .before .before)) (c .before .before .lock-rule .ensures)) (c .before .if2 .taken)
 
 count-at-requires : tie.Need-count-at-requires
-count-at-requires c κs =
-    let granted = c .before .before in
-    granting granted .place
+count-at-requires c κs = granting (c .before .before) .place
 
 count-one-more-requires : tie.Need-count-one-more-requires
 count-one-more-requires c κs =
     let granted = c .before .before .before .before in
     let at-lock-rule = granted .before in
-    let at-numbered = at-lock-rule .before .before .before .before .before in
-    let at-system-priority = at-numbered .before .before .before .before .before .before .before .before in
-    let at-tasks-fit = at-system-priority .before .before .before .before .before .before .before .before .before .before .before in
-    let entry = at-tasks-fit .before .before .before .before in
-    let range = count-range (entry .args .t1 .uses) (at-numbered .numbered .result) (entry .args .resource) (granting granted .passed .2) in (
+    let at-caller = at-lock-rule .before .before .before .before .before in
+    let entry = at-caller .before .before .before .before .before .before .before .before .before .before .before .before .before .before .before in
+    let range = count-range (entry .args .t1 .uses) (at-caller .caller .result) (entry .args .resource) (granting granted .passed .2) in (
       (granting granted .place, range .0, range .1, granting granted .sized .opened),
       rw (c .before .count-at .ensures)
-          (lock-room (tableOf (entry .args .t1)) (entryOf (entry .args .t1)) (at-numbered .numbered .result) (granting granted .place)
+          (lock-room (tableOf (entry .args .t1)) (entryOf (entry .args .t1)) (at-caller .caller .result) (granting granted .place)
           {r = entry .args .resource} (ltb (entry .args .t1 .sections) 16) (at-lock-rule .lock-rule .ensures) (granted .if2 .left)),
     )
 
@@ -149,49 +121,25 @@ add-self c =
     let granted = c .before .before .before .before .before in
     omega (arith, lock-slot (granting granted))
 
-system-priority-requires-2 : tie.Need-system-priority-requires-2
-system-priority-requires-2 c κs =
-    let granted = c .before .before .before .before .before .before .before .before .before in
+settled-requires : tie.Need-settled-requires
+settled-requires c κs =
+    let granted = c .before .before .before .before .before in
     granting granted .fits .few
-
-running-place-requires-2 : tie.Need-running-place-requires-2
-running-place-requires-2 c κs =
-    let at-count-at = c .before .before .before .before .before .before .before .before .before .before in
-    let granted = at-count-at .before .before .before in
-    granting granted .fits .few
-
-number-at-requires : tie.Need-number-at-requires
-number-at-requires c κs = search needs
-
-start-requires : tie.Need-start-requires
-start-requires c κs = search needs
 
 returns-3 : tie.Need-returns-3
 returns-3 c =
-    let at-number-at = c .before .before in
-    let at-running-place2 = at-number-at .before .before .before .before in
-    let at-system-priority2 = at-running-place2 .before .before .before .before in
-    let at-count-one-more = at-system-priority2 .before .before .before .before .before in
-    let granted = at-count-one-more .before .before .before .before .before in
-    granted-replied {runs = at-running-place2 .running-place2 .result}
-    (lock-done (granting granted) (at-count-one-more .count-one-more .ensures))
-    (record {
-      level = at-system-priority2 .system-priority2 .ensures;
-      place = at-running-place2 .running-place2 .ensures;
-      number = at-number-at .number-at .ensures;
-    }) (c .start .ensures)
+    let granted = c .before .before .before .before .before .before in
+    c .settled .ensures ∙
+    granted-replied (lock-done (granting granted) (c .before .count-one-more .ensures))
 
 pub lock-spec : {M : Type 1} → statement M
 lock-spec =
     tie.close
     (tie.spec
-    tasks-fit-requires
-    sections-fit-requires
+    is-fit-requires
     unfit-requires
     returns
-    system-priority-requires
-    running-place-requires
-    numbered-requires
+    caller-requires
     lock-rule-requires
     refused-requires
     returns-2
@@ -202,8 +150,5 @@ lock-spec =
     element-write-self-2
     element-write-self-3
     add-self
-    system-priority-requires-2
-    running-place-requires-2
-    number-at-requires
-    start-requires
+    settled-requires
     returns-3)

@@ -2,7 +2,8 @@
 use borrow.Author.Needs.{needs}
 use mathlib.Core.Path.{_∙_}
 use native.Mathlib.Omega.{arith}
-use Rattle.protocol.specs.Checks.{release, releasing}
+use Rattle.protocol.specs.Checks.{Call, release, releasing}
+use Rattle.scheduler.specs.declared.Scheduler.{Scheduler}
 use Rattle.scheduler.specs.View.{entryOf}
 use Rattle.scheduler.proofs.Sizes.{sized}
 use Rattle.scheduler.proofs.Viewing.{Fit, fit-passed}
@@ -14,58 +15,54 @@ use Rattle.scheduler.proofs.Scheduler.release.Tie as tie
 
 -- where the call begins
 abbrev begun : tie.Else1 → tie.Start
-begun c = c .before .before .before .before .before .before .before .before .before .before
+begun c = c .before .before .before .before .before .before .before .before
 
 -- where the state is found fit
 abbrev entered : tie.After-release-rule → tie.Else1
 entered c = c .before .before .before .before .before .before
 
+-- the scheduler that the call is made on
+abbrev given : tie.After-release-rule → Scheduler
+given c = begun (entered c) .args .t1
+
+-- the call itself
+abbrev asks : tie.After-release-rule → Call
+asks c = release (begun (entered c) .args .priority)
+
 -- the state is fit
 fitting : (c : tie.Else1) → Fit (begun c .args .t1)
-fitting c =
-    let at-tasks-fit = c .before .before .before .before .before .before in
-    let entry = at-tasks-fit .before .before .before .before in
-    fit-passed (entry .args .t1) (at-tasks-fit .tasks-fit .result) (c .before .sections-fit .result) (at-tasks-fit .tasks-fit .ensures)
-    (c .before .sections-fit .ensures) (c .if1 .left)
+fitting c = fit-passed (begun c .args .t1) (c .before .is-fit .result) (c .before .is-fit .ensures) (c .if1 .left)
 
 -- what the checks come to
-ruling : (c : tie.After-release-rule) → Found (begun (entered c) .args .t1) (release (begun (entered c) .args .priority)) 11
-    (c .before .before .before .place-of-priority .result) (releasing (entryOf (begun (entered c) .args .t1)))
+ruling : (c : tie.After-release-rule) → Found (given c) (asks c) 11
+    (c .before .before .before .place-of-priority .result) (releasing (entryOf (given c)))
 ruling c =
-    let at-place-of-priority = c .before .before .before in
-    let fitted = at-place-of-priority .before .before .before in
-    let entry = fitted .before .before .before .before .before .before .before .before .before .before in
-    release-found (sized (entry .args .t1) (entry .good .0)) (fitting fitted) (at-place-of-priority .place-of-priority .ensures)
+    release-found (sized (given c) (begun (entered c) .good .0)) (fitting (entered c))
+    (c .before .before .before .place-of-priority .ensures)
 
 -- the call is granted
-granting : (c : tie.Else2) → Grants (begun (entered (c .before)) .args .t1) (release (begun (entered (c .before)) .args .priority))
-    (c .before .before .before .before .place-of-priority .result)
+granting : (c : tie.Else2) → Grants (given (c .before)) (asks (c .before)) (c .before .before .before .before .place-of-priority .result)
 granting c =
-    grants (ruling (c .before)) (omega arith) (releasing-ruled (entryOf (begun (entered (c .before)) .args .t1)))
+    grants (ruling (c .before)) (omega arith)
+    (releasing-ruled (entryOf (given (c .before))))
     (c .before .release-rule .ensures) (c .if2 .left)
 
-tasks-fit-requires : tie.Need-tasks-fit-requires
-tasks-fit-requires c κs = search needs
-
-sections-fit-requires : tie.Need-sections-fit-requires
-sections-fit-requires c κs = search needs
+is-fit-requires : tie.Need-is-fit-requires
+is-fit-requires c κs = search needs
 
 unfit-requires : tie.Need-unfit-requires
 unfit-requires c κs = search needs
 
 returns : tie.Need-returns
 returns c =
-    let at-sections-fit = c .before .before in
-    let at-tasks-fit = at-sections-fit .before .before .before .before .before in
-    let entry = at-tasks-fit .before .before .before .before in
-    c .unfit .ensures ∙ unfit-answered (entry .args .t1) (release (entry .args .priority)) (at-tasks-fit .tasks-fit .result)
-    (at-sections-fit .sections-fit .result) (sized (entry .args .t1) (entry .good .0)) (at-tasks-fit .tasks-fit .ensures)
-    (at-sections-fit .sections-fit .ensures) (c .before .if1 .taken)
+    let entry = c .before .before .before .before .before .before .before .before .before in
+    c .unfit .ensures ∙
+    unfit-answered (entry .args .t1) (release (entry .args .priority))
+    (c .before .before .is-fit .result)
+    (sized (entry .args .t1) (entry .good .0)) (c .before .before .is-fit .ensures) (c .before .if1 .taken)
 
 place-of-priority-requires : tie.Need-place-of-priority-requires
-place-of-priority-requires c κs =
-    let fitted = c .before .before in
-    fitting fitted .few
+place-of-priority-requires c κs = fitting (c .before .before) .few
 
 release-rule-requires : tie.Need-release-rule-requires
 release-rule-requires c κs = search needs
@@ -74,14 +71,11 @@ refused-requires : tie.Need-refused-requires
 refused-requires c κs = ruling (c .before) .fits .few
 
 returns-2 : tie.Need-returns-2
-returns-2 c =
-    let ruled = c .before .before in
-    c .refused .ensures ∙ refused-replied (asked (ruling ruled) (ruled .release-rule .ensures)) (c .before .if2 .taken)
+returns-2 c = c .refused .ensures ∙
+    refused-replied (asked (ruling (c .before .before)) (c .before .before .release-rule .ensures)) (c .before .if2 .taken)
 
 last-open-requires : tie.Need-last-open-requires
-last-open-requires c κs =
-    let granted = c .before .before in
-    granting granted .fits .room
+last-open-requires c κs = granting (c .before .before) .fits .room
 
 ceiling-requires : tie.Need-ceiling-requires
 ceiling-requires c κs =
@@ -139,56 +133,31 @@ clear-requires c κs =
     let granted = c .before .before .before .before .before .before .before .before .before .before .before .before in
     (granting granted .place, granting granted .sized .opened)
 
-system-priority-requires : tie.Need-system-priority-requires
-system-priority-requires c κs =
-    let at-ceiling = c .before .before .before .before .before .before .before .before .before .before in
-    let granted = at-ceiling .before .before .before .before .before .before .before in
+settled-requires : tie.Need-settled-requires
+settled-requires c κs =
+    let granted = c .before .before .before .before .before .before .before .before .before .before .before .before .before in
     granting granted .fits .few
-
-running-place-requires : tie.Need-running-place-requires
-running-place-requires c κs =
-    let at-admitted = c .before .before .before .before .before .before .before .before .before .before .before .before in
-    let granted = at-admitted .before .before .before .before .before .before .before .before .before in
-    granting granted .fits .few
-
-number-at-requires : tie.Need-number-at-requires
-number-at-requires c κs = search needs
-
-start-requires : tie.Need-start-requires
-start-requires c κs = search needs
 
 returns-3 : tie.Need-returns-3
 returns-3 c =
-    let at-number-at = c .before .before in
-    let at-running-place = at-number-at .before .before .before .before in
-    let at-system-priority = at-running-place .before .before .before .before in
-    let at-clear = at-system-priority .before .before .before .before .before in
-    let at-next-serial = at-clear .before .before in
-    let at-admitted = at-next-serial .before .before in
+    let at-admitted = c .before .before .before .before .before in
     let at-ceiling = at-admitted .before .before in
     let at-last-open = at-ceiling .before .before .before .before in
     let granted = at-last-open .before .before .before in
-    granted-replied {runs = at-running-place .running-place .result}
-    (release-done (granting granted) (record {
+    c .settled .ensures ∙
+    granted-replied (release-done (granting granted) (record {
       level = at-ceiling .ceiling .result;
       last = at-last-open .last-open .result;
       opens = at-last-open .last-open .ensures;
       tops = at-ceiling .ceiling .ensures;
       number = at-admitted .admitted .ensures;
-    })
-    (at-next-serial .next-serial .ensures) (at-clear .clear .ensures))
-    (record {
-      level = at-system-priority .system-priority .ensures;
-      place = at-running-place .running-place .ensures;
-      number = at-number-at .number-at .ensures;
-    }) (c .start .ensures)
+    }) (c .before .before .before .next-serial .ensures) (c .before .clear .ensures))
 
 pub release-spec : {M : Type 1} → statement M
 release-spec =
     tie.close
     (tie.spec
-    tasks-fit-requires
-    sections-fit-requires
+    is-fit-requires
     unfit-requires
     returns
     place-of-priority-requires
@@ -208,8 +177,5 @@ release-spec =
     mul-self
     element-write-self-4
     clear-requires
-    system-priority-requires
-    running-place-requires
-    number-at-requires
-    start-requires
+    settled-requires
     returns-3)

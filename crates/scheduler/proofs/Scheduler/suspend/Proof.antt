@@ -2,7 +2,8 @@
 use borrow.Author.Needs.{needs}
 use mathlib.Core.Path.{_∙_}
 use native.Mathlib.Omega.{arith}
-use Rattle.protocol.specs.Checks.{suspend, suspending}
+use Rattle.protocol.specs.Checks.{Call, suspend, suspending}
+use Rattle.scheduler.specs.declared.Scheduler.{Scheduler}
 use Rattle.scheduler.specs.View.{tableOf, entryOf}
 use Rattle.scheduler.proofs.Sizes.{sized}
 use Rattle.scheduler.proofs.Viewing.{Fit, fit-passed}
@@ -14,80 +15,56 @@ use Rattle.scheduler.proofs.Scheduler.suspend.Tie as tie
 
 -- where the call begins
 abbrev begun : tie.Else1 → tie.Start
-begun c = c .before .before .before .before .before .before .before .before .before .before
+begun c = c .before .before .before .before .before .before .before .before
 
 -- where the state is found fit
 abbrev entered : tie.After-suspend-rule → tie.Else1
-entered c =
-    c .before .before .before .before .before .before .before .before .before
-    .before .before .before .before .before .before .before .before .before
+entered c = c .before .before .before .before .before .before .before .before .before .before .before .before
+
+-- the scheduler that the call is made on
+abbrev given : tie.After-suspend-rule → Scheduler
+given c = begun (entered c) .args .t1
+
+-- the call itself
+abbrev asks : tie.After-suspend-rule → Call
+asks c = suspend (begun (entered c) .args .job .priority) (begun (entered c) .args .job .serial)
 
 -- the state is fit
 fitting : (c : tie.Else1) → Fit (begun c .args .t1)
-fitting c =
-    let at-tasks-fit = c .before .before .before .before .before .before in
-    let entry = at-tasks-fit .before .before .before .before in
-    fit-passed (entry .args .t1) (at-tasks-fit .tasks-fit .result) (c .before .sections-fit .result) (at-tasks-fit .tasks-fit .ensures)
-    (c .before .sections-fit .ensures) (c .if1 .left)
+fitting c = fit-passed (begun c .args .t1) (c .before .is-fit .result) (c .before .is-fit .ensures) (c .if1 .left)
 
 -- what the checks come to
-ruling : (c : tie.After-suspend-rule) → Found (begun (entered c) .args .t1)
-    (suspend (begun (entered c) .args .job .priority) (begun (entered c) .args .job .serial)) 13
-    (c .before .before .before .before .before .numbered .result) (suspending (tableOf (begun (entered c) .args .t1))
-    (entryOf (begun (entered c) .args .t1)))
+ruling : (c : tie.After-suspend-rule) → Found (given c) (asks c) 13
+    (c .before .before .before .before .before .caller .result) (suspending (tableOf (given c)) (entryOf (given c)))
 ruling c =
-    let at-numbered = c .before .before .before .before .before in
-    let at-running-place = at-numbered .before .before .before .before in
-    let at-system-priority = at-running-place .before .before .before .before in
-    let fitted = at-system-priority .before .before .before .before .before in
-    let entry = fitted .before .before .before .before .before .before .before .before .before .before in
-    suspend-found (sized (entry .args .t1) (entry .good .0)) (fitting fitted)
-    (record {
-      system = at-system-priority .system-priority .result;
-      runs = at-running-place .running-place .result;
-      level = at-system-priority .system-priority .ensures;
-      place = at-running-place .running-place .ensures;
-      named = at-numbered .numbered .ensures;
-    })
+    suspend-found (sized (given c) (begun (entered c) .good .0)) (fitting (entered c))
+    (record { place = c .before .before .before .before .before .caller .ensures })
 
 -- the call is granted
-granting : (c : tie.Else2) → Grants (begun (entered (c .before)) .args .t1)
-    (suspend (begun (entered (c .before)) .args .job .priority) (begun (entered (c .before)) .args .job .serial))
-    (c .before .before .before .before .before .before .numbered .result)
+granting : (c : tie.Else2) → Grants (given (c .before)) (asks (c .before)) (c .before .before .before .before .before .before .caller .result)
 granting c =
-    grants (ruling (c .before)) (omega arith) (suspending-ruled (tableOf (begun (entered (c .before)) .args .t1))
-    (entryOf (begun (entered (c .before)) .args .t1))) (c .before .suspend-rule .ensures) (c .if2 .left)
+    grants (ruling (c .before)) (omega arith)
+    (suspending-ruled (tableOf (given (c .before))) (entryOf (given (c .before))))
+    (c .before .suspend-rule .ensures) (c .if2 .left)
 
-tasks-fit-requires : tie.Need-tasks-fit-requires
-tasks-fit-requires c κs = search needs
-
-sections-fit-requires : tie.Need-sections-fit-requires
-sections-fit-requires c κs = search needs
+is-fit-requires : tie.Need-is-fit-requires
+is-fit-requires c κs = search needs
 
 unfit-requires : tie.Need-unfit-requires
 unfit-requires c κs = search needs
 
 returns : tie.Need-returns
 returns c =
-    let at-sections-fit = c .before .before in
-    let at-tasks-fit = at-sections-fit .before .before .before .before .before in
-    let entry = at-tasks-fit .before .before .before .before in
-    c .unfit .ensures ∙ unfit-answered (entry .args .t1) (suspend (entry .args .job .priority) (entry .args .job .serial))
-    (at-tasks-fit .tasks-fit .result) (at-sections-fit .sections-fit .result) (sized (entry .args .t1) (entry .good .0))
-    (at-tasks-fit .tasks-fit .ensures) (at-sections-fit .sections-fit .ensures) (c .before .if1 .taken)
+    let entry = c .before .before .before .before .before .before .before .before .before in
+    c .unfit .ensures ∙
+    unfit-answered (entry .args .t1) (suspend (entry .args .job .priority) (entry .args .job .serial))
+    (c .before .before .is-fit .result)
+    (sized (entry .args .t1) (entry .good .0)) (c .before .before .is-fit .ensures) (c .before .if1 .taken)
 
-system-priority-requires : tie.Need-system-priority-requires
-system-priority-requires c κs =
-    let fitted = c .before .before .before .before in
+caller-requires : tie.Need-caller-requires
+caller-requires c κs =
+    let fitted = c .before .before .before .before .before .before in
     fitting fitted .few
-
-running-place-requires : tie.Need-running-place-requires
-running-place-requires c κs =
-    let fitted = c .before .before .before .before .before .before .before .before in
-    fitting fitted .few
-
-numbered-requires : tie.Need-numbered-requires
-numbered-requires c κs = search needs
 
 suspend-rule-requires : tie.Need-suspend-rule-requires
 suspend-rule-requires c κs = search needs
@@ -96,9 +73,8 @@ refused-requires : tie.Need-refused-requires
 refused-requires c κs = ruling (c .before) .fits .few
 
 returns-2 : tie.Need-returns-2
-returns-2 c =
-    let ruled = c .before .before in
-    c .refused .ensures ∙ refused-replied (asked (ruling ruled) (ruled .suspend-rule .ensures)) (c .before .if2 .taken)
+returns-2 c = c .refused .ensures ∙
+    refused-replied (asked (ruling (c .before .before)) (c .before .before .suspend-rule .ensures)) (c .before .if2 .taken)
 
 element-write-self : tie.Need-element-write-self
 element-write-self c = granting c .place
@@ -111,61 +87,31 @@ element-copy-out-one-more-2 c = granting (c .before) .place
 
 one-more-requires : tie.Need-one-more-requires
 one-more-requires c κs =
-    let granted = c .before .before in
-    let at-suspend-rule = granted .before in
-    let at-numbered = at-suspend-rule .before .before .before .before .before in
-    let at-system-priority = at-numbered .before .before .before .before .before .before .before .before in
-    let at-tasks-fit = at-system-priority .before .before .before .before .before .before .before .before .before .before .before in
-    let entry = at-tasks-fit .before .before .before .before in
-    suspend-room (tableOf (entry .args .t1)) (entryOf (entry .args .t1)) (at-numbered .numbered .result) (granting granted .place)
-    (at-suspend-rule .suspend-rule .ensures) (granted .if2 .left)
+    let at-caller = c .before .before .before .before .before .before .before .before in
+    let entry = at-caller .before .before .before .before .before .before .before .before .before .before .before .before .before .before .before in
+    suspend-room (tableOf (entry .args .t1)) (entryOf (entry .args .t1))
+    (at-caller .caller .result) (granting (c .before .before) .place) (c .before .before .before .suspend-rule .ensures) (c .before .before .if2 .left)
 
 element-write-self-2 : tie.Need-element-write-self-2
-element-write-self-2 c =
-    let granted = c .before .before .before in
-    granting granted .place
+element-write-self-2 c = granting (c .before .before .before) .place
 
-system-priority-requires-2 : tie.Need-system-priority-requires-2
-system-priority-requires-2 c κs =
-    let granted = c .before .before .before .before .before .before .before in
-    granting granted .fits .few
-
-running-place-requires-2 : tie.Need-running-place-requires-2
-running-place-requires-2 c κs =
-    let granted = c .before .before .before .before .before .before .before .before .before .before .before in
-    granting granted .fits .few
-
-number-at-requires : tie.Need-number-at-requires
-number-at-requires c κs = search needs
-
-start-requires : tie.Need-start-requires
-start-requires c κs = search needs
+settled-requires : tie.Need-settled-requires
+settled-requires c κs = granting (c .before .before .before) .fits .few
 
 returns-3 : tie.Need-returns-3
 returns-3 c =
-    let at-number-at = c .before .before in
-    let at-running-place2 = at-number-at .before .before .before .before in
-    let at-system-priority2 = at-running-place2 .before .before .before .before in
-    let at-one-more = at-system-priority2 .before .before .before .before .before in
-    let granted = at-one-more .before .before .before in
-    granted-replied {runs = at-running-place2 .running-place2 .result} (suspend-done (granting granted) (at-one-more .one-more .ensures))
-    (record {
-      level = at-system-priority2 .system-priority2 .ensures;
-      place = at-running-place2 .running-place2 .ensures;
-      number = at-number-at .number-at .ensures;
-    }) (c .start .ensures)
+    let granted = c .before .before .before .before in
+    c .settled .ensures ∙
+    granted-replied (suspend-done (granting granted) (c .before .one-more .ensures))
 
 pub suspend-spec : {M : Type 1} → statement M
 suspend-spec =
     tie.close
     (tie.spec
-    tasks-fit-requires
-    sections-fit-requires
+    is-fit-requires
     unfit-requires
     returns
-    system-priority-requires
-    running-place-requires
-    numbered-requires
+    caller-requires
     suspend-rule-requires
     refused-requires
     returns-2
@@ -174,8 +120,5 @@ suspend-spec =
     element-copy-out-one-more-2
     one-more-requires
     element-write-self-2
-    system-priority-requires-2
-    running-place-requires-2
-    number-at-requires
-    start-requires
+    settled-requires
     returns-3)
