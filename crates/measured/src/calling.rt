@@ -1,5 +1,6 @@
 // Lists of calls. A record has five bytes: kind, priority, the serial's low and high byte, resource. Kinds 16 to 21 are release, resume, lock,
 // unlock, suspend and complete; a record of any other kind is no call.
+ghost use Prim.Native.Nat.{_≤_};
 use crate::sums::with_reply;
 use scheduler::Number;
 use scheduler::Reply;
@@ -13,7 +14,9 @@ pub struct Passed {
 }
 
 // A byte as a wider number.
-fn wide(byte: u8) -> u16 {
+fn wide(byte: u8) -> u16
+    ensures { λ r. ⌜ r ≤ 255 ⌝ }
+{
     byte as u16
 }
 
@@ -45,7 +48,7 @@ fn call(scheduler: Scheduler, kind: u8, job: Number, resource: u8) -> Reply {
 }
 
 // Goes through a list once.
-pub fn passed(start: Scheduler, calls: &[u8], pass: u16, h: u64) -> Passed {
+pub fn one_pass(start: Scheduler, calls: &[u8], pass: u16, h: u64) -> Passed {
     let mut scheduler = start;
     let mut sum = h;
     let mut at: usize = 0;

@@ -27,7 +27,7 @@ pub extern "C" fn quasdrom_calls(table: &[u8], calls: &[u8], times: u64) -> u64 
     let mut pass: u16 = 0;
     let mut left = times;
     while left > 0 {
-        let passed = calling::passed(scheduler, calls, pass, sum);
+        let passed = calling::one_pass(scheduler, calls, pass, sum);
         scheduler = passed.scheduler;
         sum = passed.sum;
         pass = std::num::wrapping_add_u16(pass, 1);
