@@ -3,15 +3,16 @@ use Prim.Native.Nat.{ℕ, _+_, _-_, _≤_, _<_}
 use mathlib.Core.Path.{_≡_, refl, sym, ap, subst, _∙_}
 use mathlib.Core.Bool.{Bool, true, false}
 use mathlib.Core.List.{List, _++_}
-use native.Mathlib.Decide.{decLt}
 use native.Mathlib.Omega.{arith}
 use lib.ListN.{getD, drop, replicate, length-replicate, replicate-append-replicate}
-use lib.Seq.{ext-getD, drop-at}
+use lib.Seq.{drop-at}
+use Rattle.searches.specs.Searches.{all}
+use Rattle.searches.specs.Indexed.{every}
+use Rattle.searches.proofs.Searching.{all-same}
+use Rattle.searches.proofs.Indexed.{same-at, filled-is}
 use Rattle.table.specs.declared.Shape.{Shape}
 use Rattle.table.specs.declared.Reading.the-variants.{Accepted}
-use Rattle.table.specs.Indexed.{allTo, every}
 use Rattle.table.specs.WellFormed.{WellFormed}
-use Rattle.table.proofs.Indexed.{all-same, same-at, filled-at, filled-past, filled-length}
 use Rattle.rounds.specs.Rounds.{Progress, analysis, answer, begin}
 use Rattle.rounds.specs.AllowanceLaws.{within-allowed, beyond-refused}
 use Rattle.equations.specs.View.{ownSettings}
@@ -41,11 +42,7 @@ zeros-left n l =
 -- marks that are those of f for n tasks
 marks-are : (n : ℕ) (f : ℕ → Bool) (b : List Bool) → n ≤ 32 → Marks n b → ((i : ℕ) → i < n → getD b i false ≡ f i) → b ≡ every f n 0 ++ replicate (32 - n) false
 marks-are n f b l m h =
-    ext-getD false b (every f n 0 ++ replicate (32 - n) false) (m .sized ∙ sym (filled-length f false 32 n l)) (λ i p. go i (decLt i n))
-  where
-    go : (i : ℕ) → Dec (i < n) → getD b i false ≡ getD (every f n 0 ++ replicate (32 - n) false) i false
-    go i (yes q) = h i q ∙ sym (filled-at f false n (32 - n) i q)
-    go i (no q) = m .rest i (omega arith) ∙ sym (filled-past f false n (32 - n) i (omega arith))
+    filled-is f false 32 n b l (m .sized) h (λ i p q. m .rest i p)
 
 module _ (s : List ℕ) (h : Shape) (w : WellFormed s h) (allowance : ℕ) (settings : List ℕ) (own : settings ≡ ownSettings s (h .tasks))
     (v : List ℕ) (b : List Bool) (r : Round) (g : Settled (h .tasks) allowance (equationsOf s h settings) v b r) where
@@ -58,17 +55,17 @@ module _ (s : List ℕ) (h : Shape) (w : WellFormed s h) (allowance : ℕ) (sett
   spent-is a e f = rw (beyond-refused (ownSystem s h) allowance (ours .beyond f)) e
 
   -- it is within
-  pub done-is : (values : List ℕ) (verdict : Bool) → values ≡ v ++ drop (h .tasks) (replicate 32 0) → verdict ≡ allTo (h .tasks) (λ i. getD b i false) → r .spent ≡ false
+  pub done-is : (values : List ℕ) (verdict : Bool) → values ≡ v ++ drop (h .tasks) (replicate 32 0) → verdict ≡ all (λ i. getD b i false) (h .tasks) → r .spent ≡ false
       → record { refusal = record { number = 0; place = 0 }; tasks = h .tasks; verdict = verdict; evaluations = r .evaluations; values = values; bounds = b } ≡ analysedAs (Accepted h) s allowance
   unfolding analysedAs
   done-is values verdict e o f =
       let final = ours .within f in
       let count : r .evaluations ≡ analysis (ownSystem s h) .evaluations = ap (λ (p : Progress). p .evaluations) (final .done) in
       let vector : v ≡ analysis (ownSystem s h) .vector = ap (λ (p : Progress). p .vector) (final .done) in
-      let all : values ≡ analysis (ownSystem s h) .vector ++ replicate (32 - h .tasks) 0 =
+      let whole : values ≡ analysis (ownSystem s h) .vector ++ replicate (32 - h .tasks) 0 =
       e ∙ ap (λ (x : List ℕ). v ++ x) (zeros-left (h .tasks) (w .tasks-most)) ∙ ap (λ (x : List ℕ). x ++ replicate (32 - h .tasks) 0) vector in
       let each : (i : ℕ) → i < h .tasks → getD b i false ≡ bounded (answer (ownSystem s h) i) =
       λ i l. final .bounds-are i (rw (table-size s h (ownSettings s (h .tasks)) w) l) in
       let marks = marks-are (h .tasks) (λ i. bounded (answer (ownSystem s h) i)) b (w .tasks-most) (ours .marks) each in
-      let said : verdict ≡ verdictOf s h = o ∙ all-same (h .tasks) (λ i. getD b i false) (λ i. bounded (answer (ownSystem s h) i)) each in
-      rw (within-allowed (ownSystem s h) allowance (omega (arith, final .counted)), count, all, marks, said)
+      let said : verdict ≡ verdictOf s h = o ∙ all-same (λ i. getD b i false) (λ i. bounded (answer (ownSystem s h) i)) (h .tasks) each in
+      rw (within-allowed (ownSystem s h) allowance (omega (arith, final .counted)), count, whole, marks, said)

@@ -9,12 +9,14 @@ use native.Mathlib.Decide.{decLe}
 use native.Mathlib.Omega.{arith}
 use lib.ListN.{getD, replicate, List·getD-append}
 use borrow.Author.Tests.{lt-ltb}
+use Rattle.searches.proofs.Testing.{impossible}
+use Rattle.searches.proofs.Searching.{all-each, all-fails, all-true}
+use Rattle.searches.proofs.Indexed.{filled-at}
 use Rattle.table.specs.declared.Shape.{Shape}
 use Rattle.table.specs.declared.Reading.{Reading}
 use Rattle.table.specs.declared.Reading.the-variants.{Accepted, Refused}
 use Rattle.table.specs.Reading.{readTable}
 use Rattle.table.proofs.Accepted.{well-formed}
-use Rattle.table.proofs.Indexed.{all-each, all-fails, all-true, filled-at}
 use Rattle.rounds.specs.Answer as theory
 use Rattle.rounds.specs.Answer.{value}
 use Rattle.rounds.specs.System.{deadline}
@@ -89,7 +91,7 @@ tasks-most s allowance = go (readTable s) refl
 -- ---- the verdict and the answers
 
 bounded-none : (a : theory.Answer) → bounded a ≡ false → a ≡ theory.none
-bounded-none (theory.bound t) e = absurd (let y : _≡_ {A = ℕ} 0 1 = cc in omega arith)
+bounded-none (theory.bound t) e = absurd (impossible cc)
 bounded-none theory.none e = refl
 
 some-bounded : (a : theory.Answer) → (a ≡ theory.none → ⊥) → bounded a ≡ true
@@ -97,8 +99,8 @@ some-bounded (theory.bound t) n = refl
 some-bounded theory.none n = absurd (n refl)
 
 bounded-not : (a : theory.Answer) → bounded a ≡ true → a ≡ theory.none → ⊥
-bounded-not (theory.bound t) e q = let y : _≡_ {A = ℕ} 0 1 = cc in omega arith
-bounded-not theory.none e q = let y : _≡_ {A = ℕ} 0 1 = cc in omega arith
+bounded-not (theory.bound t) e q = impossible cc
+bounded-not theory.none e q = impossible cc
 
 -- a mark and a value tell the answer that they stand for
 told-answer : (verdict : Bool) (d : ℕ) (a : theory.Answer) → told verdict (bounded a) (value d a) ≡ toldOf verdict a
@@ -118,8 +120,8 @@ module _ (s : List ℕ) (h : Shape) (e : readTable s ≡ Accepted h) (allowance 
   -- the verdict is yes exactly when no task has none
   pub verdict-yes : (analysed s allowance .verdict ≡ true) ↔ ((i : ℕ) → i < h .tasks → answer (ownSystem s h) i ≡ theory.none → ⊥)
   verdict-yes = (
-    λ q i p. bounded-not (answer (ownSystem s h) i) (all-each (h .tasks) (λ j. bounded (answer (ownSystem s h) j)) (sym verdict-is ∙ q) i p),
-    λ f. verdict-is ∙ all-true (h .tasks) (λ j. bounded (answer (ownSystem s h) j)) (λ i p. some-bounded (answer (ownSystem s h) i) (f i p)),
+    λ q i p. bounded-not (answer (ownSystem s h) i) (all-each (λ j. bounded (answer (ownSystem s h) j)) (h .tasks) (sym verdict-is ∙ q) i p),
+    λ f. verdict-is ∙ all-true (λ j. bounded (answer (ownSystem s h) j)) (h .tasks) (λ i p. some-bounded (answer (ownSystem s h) i) (f i p)),
   )
 
   module _ (i : ℕ) (p : i < h .tasks) where
@@ -146,12 +148,12 @@ module _ (s : List ℕ) (h : Shape) (e : readTable s ≡ Accepted h) (allowance 
       where
         there : (verdict : Bool) → verdictOf s h ≡ verdict → (a : theory.Answer) → answer (ownSystem s h) i ≡ a → toldOf verdict a ≡ Conditional t
             → (answer (ownSystem s h) i ≡ theory.bound t) × SomeNone s h
-        there true v (theory.bound u) f q = absurd (let y : _≡_ {A = ℕ} 0 1 = cc in omega arith)
-        there true v theory.none f q = absurd (let y : _≡_ {A = ℕ} 0 1 = cc in omega arith)
-        there false v theory.none f q = absurd (let y : _≡_ {A = ℕ} 0 1 = cc in omega arith)
+        there true v (theory.bound u) f q = absurd (impossible cc)
+        there true v theory.none f q = absurd (impossible cc)
+        there false v theory.none f q = absurd (impossible cc)
         there false v (theory.bound u) f q =
             let same : u ≡ t = cc in
-            let w = all-fails (h .tasks) (λ j. bounded (answer (ownSystem s h) j)) v in
+            let w = all-fails (λ j. bounded (answer (ownSystem s h) j)) (h .tasks) v in
             (f ∙ ap theory.bound same, (w .0, w .1, bounded-none (answer (ownSystem s h) (w .0)) (w .2)))
 
         back : (verdict : Bool) → verdictOf s h ≡ verdict → answer (ownSystem s h) i ≡ theory.bound t → SomeNone s h

@@ -4,9 +4,10 @@ use mathlib.Core.Path.{_≡_, sym, ap, subst, _∙_}
 use mathlib.Core.Bool.{Bool, true, false}
 use mathlib.Core.List.{List}
 use native.Mathlib.Omega.{arith}
+use Rattle.searches.proofs.Testing.{impossible}
 use Rattle.rounds.specs.System.{System, Lawful}
 use Rattle.rounds.specs.Vector.{sum}
-use Rattle.rounds.specs.Rounds.{Progress, round, changed, begin}
+use Rattle.rounds.specs.Rounds.{Progress, round, begin}
 use Rattle.rounds.specs.RoundsLoop.{Going, going-start, going-over, going-next, going-less, going-end, going-answers}
 use Rattle.analysis.specs.declared.turns.Round.{Round}
 use Rattle.analysis.specs.Rounding.{progress, bounded, Rounded, Settled}
@@ -22,7 +23,7 @@ module _ (n : ℕ) (S : System) (L : Lawful S) (allowance : ℕ) where
     pub spent-here : r .spent ≡ true → Settled n allowance S w bounds r
     spent-here e = record {
       marks = k .marks;
-      within = λ z. absurd (let y : _≡_ {A = ℕ} 0 1 = cc in omega arith);
+      within = λ z. absurd (impossible cc);
       beyond = λ z. going-over S L allowance (progress v made) g (k .beyond e);
     }
 
@@ -49,5 +50,5 @@ module _ (n : ℕ) (S : System) (L : Lawful S) (allowance : ℕ) where
             counted = left .counted;
             bounds-are = λ i p. left .bounds-are i p ∙ ap bounded (sym (going-answers S L allowance (progress v made) g is i));
           };
-          beyond = λ z. absurd (let y : _≡_ {A = ℕ} 0 1 = cc in omega arith);
+          beyond = λ z. absurd (impossible cc);
         }

@@ -4,10 +4,11 @@ use mathlib.Core.Path.{_≡_, sym, _∙_}
 use mathlib.Core.Bool.{true, false}
 use mathlib.Core.List.{List}
 use native.Mathlib.Omega.{arith}
+use Rattle.searches.proofs.Testing.{impossible}
+use Rattle.searches.proofs.Indexed.{length-every, every-at}
 use Rattle.table.specs.declared.Shape.{Shape}
 use Rattle.table.specs.Fields.{wordAt}
 use Rattle.table.specs.WellFormed.{taskOf, WellFormed}
-use Rattle.table.proofs.Indexed.{length-every, every-at}
 use Rattle.rounds.specs.System.{System, size, deadline}
 use Rattle.rounds.specs.VectorLaws.{⊑-refl}
 use Rattle.equations.specs.declared.Query.{Query}
@@ -86,8 +87,8 @@ module _ (s settings ceilings v : List ℕ) (q : Query) (g : Solvable s settings
 -- one that is within the allowance
 pub replied : (whole : Reply) (a : code.Answer) (n allowance : ℕ) → whole ≡ record { answer = answerOf a; evaluations = n } → n ≤ allowance
     → Solved allowance whole (record { answer = a; evaluations = n; spent = false })
-replied whole a n allowance e l = record { within = λ z. (sym e, l); beyond = λ z. absurd (let y : _≡_ {A = ℕ} 0 1 = cc in omega arith) }
+replied whole a n allowance e l = record { within = λ z. (sym e, l); beyond = λ z. absurd (impossible cc) }
 
 -- one that is not
 pub refused : (whole : Reply) (a : code.Answer) (n allowance : ℕ) → allowance < whole .evaluations → Solved allowance whole (record { answer = a; evaluations = n; spent = true })
-refused whole a n allowance l = record { within = λ z. absurd (let y : _≡_ {A = ℕ} 0 1 = cc in omega arith); beyond = λ z. l }
+refused whole a n allowance l = record { within = λ z. absurd (impossible cc); beyond = λ z. l }

@@ -8,6 +8,7 @@ use lib.ListN.{getD, length, set, length-set}
 use lib.Seq.{getD-set-same, getD-set-other}
 use borrow.Author.Count.{below-more}
 use borrow.Author.Tests.{lt-ltb, le-ltb}
+use Rattle.searches.proofs.Testing.{impossible}
 use Rattle.table.specs.declared.Shape.{Shape}
 use Rattle.table.specs.WellFormed.{taskOf, WellFormed}
 use Rattle.rounds.specs.System.{System, size}
@@ -98,7 +99,7 @@ module _ (s settings v : List ℕ) (h : Shape) (w : WellFormed s h) (origin : Pr
   pub spent-round : (x : Round) → x .spent ≡ true → r .spent ≡ true → (u : List ℕ) → Rounded (h .tasks) allowance (equationsOf s h settings) origin u bounds x
   spent-round x e f u = record {
     marks = g .marks;
-    within = λ z. absurd (let y : _≡_ {A = ℕ} 0 1 = cc in omega arith);
+    within = λ z. absurd (impossible cc);
     beyond = λ z. turned-over (equationsOf s h settings) origin allowance i (progress v made) flag (g .turned) inside (k .beyond f);
   }
 
@@ -139,5 +140,5 @@ done-round s settings v h origin allowance i made flag bounds w g l =
         told = g .turned .told ∙ ap (changed origin) end;
         bounds-are = λ j p. g .marked j (omega arith);
       };
-      beyond = λ z. absurd (let y : _≡_ {A = ℕ} 0 1 = cc in omega arith);
+      beyond = λ z. absurd (impossible cc);
     }

@@ -3,11 +3,12 @@ use Prim.Native.Nat.{ℕ, _-_}
 use mathlib.Core.Bool.{Bool, false}
 use mathlib.Core.List.{List, _++_}
 use lib.ListN.{replicate}
+use Rattle.searches.specs.Searches.{all}
+use Rattle.searches.specs.Indexed.{every}
 use Rattle.table.specs.declared.Refusal.{Refusal}
 use Rattle.table.specs.declared.Shape.{Shape}
 use Rattle.table.specs.declared.Reading.{Reading}
 use Rattle.table.specs.declared.Reading.the-variants.{Accepted, Refused}
-use Rattle.table.specs.Indexed.{allTo, every}
 use Rattle.table.specs.Reading.{readTable}
 use Rattle.rounds.specs.System.{System}
 use Rattle.rounds.specs.Rounds.{Progress, answer}
@@ -27,7 +28,7 @@ refusedBy f = record { refusal = f; tasks = 0; verdict = false; evaluations = 0;
 
 -- the verdict is yes where every task has a bound
 abbrev pub verdictOf : List ℕ → Shape → Bool
-verdictOf s h = allTo (h .tasks) (λ i. bounded (answer (ownSystem s h) i))
+verdictOf s h = all (λ i. bounded (answer (ownSystem s h) i)) (h .tasks)
 
 -- where the rounds came to their end: the verdict, the total, the final vector, and which tasks have a bound
 abbrev pub doneBy : List ℕ → Shape → Progress → Analysis

@@ -2,7 +2,7 @@
 ghost use mathlib.Core.Path.{_≡_};
 ghost use Prim.Native.Nat.{_+_, _*_, _≤_, _<_};
 ghost use lib.ListN.{length};
-ghost use Rattle.table.specs.Indexed.{every};
+ghost use Rattle.searches.specs.Indexed.{every};
 ghost use Rattle.equations.specs.View.{viewOf, ownSettings};
 ghost use Rattle.equations.specs.Equations.{systemOf};
 ghost use Rattle.analysis.specs.Rounding.{deadlineOf, Listed, Marks, Settled};

@@ -3,7 +3,7 @@ ghost use mathlib.Core.Path.{_≡_};
 ghost use Prim.Native.Nat.{_≤_, _<_};
 ghost use lib.ListN.{getD, length};
 ghost use mathlib.Core.Bool.{false};
-ghost use Rattle.table.specs.Indexed.{allTo};
+ghost use Rattle.searches.specs.Searches.{all};
 ghost use Rattle.rounds.specs.OnWay.{OnWay};
 ghost use Rattle.rounds.specs.Rounds.{begin};
 ghost use Rattle.equations.specs.View.{viewOf};
@@ -36,7 +36,7 @@ fn is_bound(answer: Answer) -> bool
 // Whether each of the tasks is marked as one with a bound.
 pub fn all_bounded(bounds: &[bool; 32], tasks: usize) -> bool
     requires { ⌜ tasks ≤ 32 ⌝ }
-    ensures { λ r. ⌜ r ≡ allTo tasks (λ i. getD (now (bounds .entry)) i false) ⌝ }
+    ensures { λ r. ⌜ r ≡ all (λ i. getD (now (bounds .entry)) i false) tasks ⌝ }
 {
     let mut all = true;
     let mut i = 0;

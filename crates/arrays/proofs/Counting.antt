@@ -9,7 +9,7 @@ use lib.Dec.{ltb, eqb}
 use lib.ListN.{length, getD, set, length-set}
 use lib.Seq.{getD-set-same, getD-set-other}
 use borrow.Author.Tests.{eq-eqb, ne-eqb, lt-ltb, ltb-true}
-use Rattle.protocol.specs.Searches.{only}
+use Rattle.searches.specs.Searches.{only}
 use Rattle.protocol.specs.Acting.{oneMore}
 use Rattle.arrays.specs.View.{countOf}
 use Rattle.arrays.specs.Stores.{Cleared, Counted}

@@ -7,7 +7,7 @@ use native.Mathlib.Omega.{arith}
 use lib.Dec.{ltb, leb, eqb}
 use lib.ListN.{getD}
 use borrow.Author.Tests.{ne-eqb, lt-ltb, le-ltb, lt-leb, ltb-true}
-use Rattle.protocol.specs.Searches.{only}
+use Rattle.searches.specs.Searches.{only}
 use Rattle.protocol.specs.State.{Status, none, ready, waiting, asleep, isNone, isReady, isWaiting, isAsleep}
 use Rattle.arrays.specs.View.{statusOf, ownNumber, countOf, lastOpen}
 

@@ -7,7 +7,7 @@ use native.Mathlib.Omega.{arith}
 use lib.Dec.{ltb, leb}
 use lib.ListN.{length, getD, length-append}
 use Rattle.protocol.specs.Tasks.{Table}
-use Rattle.protocol.specs.Searches.{all, largest}
+use Rattle.searches.specs.Searches.{all, largest}
 use Rattle.protocol.specs.State.{Entry, Section}
 use Rattle.protocol.specs.Running.{ceiling, top}
 use Rattle.protocol.specs.Fit.{used, named, fit}

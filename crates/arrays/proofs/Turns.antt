@@ -9,7 +9,7 @@ use native.Mathlib.Decide.{ℕ-discrete}
 use lib.Dec.{ltb, leb}
 use lib.ListN.{getD}
 use borrow.Author.Tests.{lt-ltb, le-ltb, ltb-true, ltb-false, le-leb}
-use Rattle.protocol.specs.Searches.{Place, nowhere, at, orElse, ifHere, first, beats, best, all, some, largest, only}
+use Rattle.searches.specs.Searches.{Place, nowhere, at, orElse, ifHere, first, beats, best, all, some, largest, only}
 use Rattle.protocol.specs.State.{isNone, isReady}
 use Rattle.protocol.specs.Running.{systemPriority, aboveSystem, running}
 use Rattle.arrays.specs.declared.scans.Candidate.{Candidate}

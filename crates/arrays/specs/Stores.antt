@@ -5,7 +5,7 @@ use mathlib.Core.Bool.{Bool, true, cond, _&&_}
 use Prim.Native.Nat.{ℕ, suc, _+_, _≤_, _<_}
 use lib.Dec.{ltb, leb, eqb}
 use lib.ListN.{length, getD, set}
-use Rattle.protocol.specs.Searches.{Place, nowhere, at}
+use Rattle.searches.specs.Searches.{Place, nowhere, at}
 use Rattle.protocol.specs.Acting.{oneMore}
 use Rattle.arrays.specs.declared.scans.Candidate.{Candidate}
 use Rattle.arrays.specs.View.{countOf}

@@ -5,7 +5,7 @@ use Prim.Native.Nat.{ℕ, zero, suc, _+_, _*_}
 use lib.Dec.{ltb, eqb}
 use lib.ListN.{getD}
 use Rattle.protocol.specs.Tasks.{Table}
-use Rattle.protocol.specs.Searches.{Place, nowhere, at, ifHere, only}
+use Rattle.searches.specs.Searches.{Place, nowhere, at, ifHere, only}
 use Rattle.protocol.specs.State.{Status, none, ready, waiting, asleep, Entry, Section, State, isAsleep}
 use Rattle.protocol.specs.Checks.{numbered}
 use Rattle.protocol.specs.Acting.{section}

@@ -3,7 +3,7 @@ ghost use mathlib.Core.Path.{_≡_};
 ghost use mathlib.Core.Bool.{not, _&&_};
 ghost use Prim.Native.Nat.{_+_, _%_, _≤_, _<_, max};
 ghost use lib.Dec.{ltb, eqb};
-ghost use Rattle.protocol.specs.Searches.{only};
+ghost use Rattle.searches.specs.Searches.{only};
 ghost use Rattle.protocol.specs.State.{following, isNone, isReady, isAsleep};
 ghost use Rattle.protocol.specs.Acting.{admittedBy};
 ghost use Rattle.arrays.specs.View.{statusOf, ownNumber};

@@ -3,7 +3,7 @@ ghost use mathlib.Core.Path.{_≡_};
 ghost use mathlib.Core.Bool.{cond};
 ghost use Prim.Native.Nat.{_+_, _≤_, _<_};
 ghost use lib.Dec.{ltb};
-ghost use Rattle.protocol.specs.Searches.{first};
+ghost use Rattle.searches.specs.Searches.{first};
 ghost use Rattle.protocol.specs.Running.{aboveSystem, running};
 ghost use Rattle.arrays.specs.View.{ranked, jobs, ofPriority, ofNumber, sleeping, placeOf, passing};
 ghost use Rattle.arrays.specs.Stores.{bettered};

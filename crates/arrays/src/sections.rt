@@ -4,7 +4,7 @@ ghost use mathlib.Core.List.{[]};
 ghost use mathlib.Core.Bool.{_&&_};
 ghost use Prim.Native.Nat.{_≤_, _<_};
 ghost use lib.Dec.{leb};
-ghost use Rattle.protocol.specs.Searches.{first, all};
+ghost use Rattle.searches.specs.Searches.{first, all};
 ghost use Rattle.protocol.specs.Running.{ceiling};
 ghost use Rattle.protocol.specs.Fit.{used, named, fit};
 ghost use Rattle.arrays.specs.View.{countOf, tasksBy, users, sectionsBy, opening, lastOpen, settingBelow, isSection, slotOf};

@@ -4,22 +4,21 @@ use mathlib.Core.Path.{_≡_, refl}
 use mathlib.Core.Bool.{Bool, true, false}
 use mathlib.Core.List.{List, [], _∷_}
 use lib.ListN.{length}
+use Rattle.searches.specs.Searches.{first, best, all, some, largest}
+use Rattle.searches.specs.Indexed.{sumTo, every}
 use Rattle.table.specs.declared.Shape.{Shape}
 use Rattle.table.specs.Fields.{wordAt}
-use Rattle.table.specs.Indexed.{sumTo, allTo, every}
 use Rattle.table.specs.Rules.{taskRule, placeFrom, sumAfter, useRule}
 use Rattle.table.specs.Reading.{taskStep, useStep, endStep, stepAt, readFrom}
 use Rattle.rounds.specs.Solver.{climb, solve}
 use Rattle.rounds.specs.Rounds.{turn, turns, round, begin, lastFrom, beforeLast, analysis, answer}
 use Rattle.rounds.specs.Allowance.{allowed}
-use Rattle.equations.specs.Counting.{maxTo}
-use Rattle.equations.specs.Bag.{bagTo, largest}
+use Rattle.equations.specs.Bag.{bagTo, sumOfLargest}
 use Rattle.equations.specs.Equations.{ceiling, extra, blocking, additions}
 use Rattle.analysis.specs.declared.TaskAnswer.{TaskAnswer}
 use Rattle.analysis.specs.declared.TaskAnswer.the-variants.{Bound, Conditional, Nothing}
 use Rattle.analysis.specs.Analysing.{ownSystem, analysedAs, analysed}
 use Rattle.analysis.specs.Answering.{answerAt}
-use Rattle.protocol.specs.Searches as searches
 use Rattle.protocol.specs.State.{fresh}
 use Rattle.protocol.specs.Running as machine
 use Rattle.protocol.specs.Fit.{used, named, fit}
@@ -71,7 +70,7 @@ cases =
 
 -- the checker computes them
 pub computed : Hold cases
-unfolding stepAt readFrom endStep taskStep useStep taskRule useRule sumAfter placeFrom wordAt sumTo allTo every answer analysis beforeLast lastFrom turns turn solve climb maxTo bagTo largest ceiling extra blocking additions allowed analysedAs answers step fit used named machine.running machine.systemPriority machine.top machine.ceiling searches.first searches.best searches.all searches.some searches.largest has without timesOf setUpBy
+unfolding stepAt readFrom endStep taskStep useStep taskRule useRule sumAfter placeFrom wordAt sumTo every answer analysis beforeLast lastFrom turns turn solve climb bagTo sumOfLargest ceiling extra blocking additions allowed analysedAs answers step fit used named machine.running machine.systemPriority machine.top machine.ceiling first best all some largest has without timesOf setUpBy
 computed = (
   (refl, refl, refl),
   (

@@ -5,16 +5,18 @@ use mathlib.Core.List.{List}
 use native.Mathlib.Nat.{le-refl, mul-le-mul-left, mul-le-mul-right}
 use native.Mathlib.Omega.{arith}
 use lib.Dec.{ltb, leb}
-use Rattle.table.proofs.Indexed.{length-every}
+use Rattle.searches.specs.Searches.{largest}
+use Rattle.searches.proofs.Searching.{largest-reaches}
+use Rattle.searches.proofs.Sums.{sumTo-mono}
+use Rattle.searches.proofs.Indexed.{length-every}
 use Rattle.rounds.specs.Vector.{at, _⊑_}
 use Rattle.rounds.specs.System.{Lawful}
-use Rattle.equations.specs.Counting.{ceil, maxTo}
-use Rattle.equations.specs.Bag.{largest}
+use Rattle.equations.specs.Counting.{ceil}
+use Rattle.equations.specs.Bag.{sumOfLargest}
 use Rattle.equations.specs.View.{View}
 use Rattle.equations.specs.Equations.{Part, repeats, bag, blocking, addition, additions, middle, reaches, systemWith, systemOf}
-use Rattle.equations.proofs.Sums.{sumTo-mono}
-use Rattle.equations.proofs.Counting.{ceil-mono, maxTo-at}
-use Rattle.equations.proofs.Layers.{bag-mono}
+use Rattle.equations.proofs.Counting.{ceil-mono}
+use Rattle.equations.proofs.Layers.{part-mono, bag-mono}
 
 -- a part of a right side that rises with the vector and with t
 abbrev pub Rises : Part → Type 0
@@ -30,20 +32,16 @@ lawful-with W B A pos b a =
     }
 
 module _ (W : View) where
-  cond-mono : (b : Bool) (x y z : ℕ) → x ≤ y → cond b x z ≤ cond b y z
-  cond-mono true x y z h = h
-  cond-mono false x y z h = le-refl z
-
   repeats-rise : (i : ℕ) (v w : List ℕ) (t u : ℕ) → v ⊑ w → t ≤ u → (k : ℕ) → repeats W i v t k ≤ repeats W i w u k
   repeats-rise i v w t u le h k =
-      cond-mono (middle W i (W .usage k .priority) && reaches W i k) _ _ 0
+      part-mono (middle W i (W .usage k .priority) && reaches W i k) _ _
       (mul-le-mul-left (W .usage k .times)
       (ceil-mono (t + at v (W .user k)) (u + at w (W .user k)) (W .task (W .user k) .period) (omega (arith, le (W .user k)))))
 
-  pub largest-rises : (x : ℕ) → Rises (λ i v t. largest x (bag W i v t))
+  pub largest-rises : (x : ℕ) → Rises (λ i v t. sumOfLargest x (bag W i v t))
   largest-rises x i v w t u le h =
-      bag-mono (maxTo (W .uses) (λ k. W .usage k .length)) x (W .uses) (λ k. W .usage k .length) (repeats W i v t) (repeats W i w u)
-      (maxTo-at (λ k. W .usage k .length) (W .uses)) (λ k p. repeats-rise i v w t u le h k)
+      bag-mono (largest (λ k. W .usage k .length) (W .uses)) x (W .uses) (λ k. W .usage k .length) (repeats W i v t) (repeats W i w u)
+      (λ j p. largest-reaches (λ k. W .usage k .length) (W .uses) j p (le-refl (W .usage j .length))) (λ k p. repeats-rise i v w t u le h k)
 
   pub blocking-rises : Rises (blocking W)
   unfolding blocking
@@ -65,7 +63,7 @@ module _ (W : View) where
   pub additions-rise : Rises (additions W)
   unfolding additions
   additions-rise i v w t u le h =
-      sumTo-mono _ _ (W .tasks) (λ j p. cond-mono (ltb (W .task i .priority) (W .task j .priority)) _ _ 0 (addition-rises j i v w t u le h))
+      sumTo-mono _ _ (W .tasks) (λ j p. part-mono (ltb (W .task i .priority) (W .task j .priority)) _ _ (addition-rises j i v w t u le h))
 
   pub lawful : ((i : ℕ) → i < W .tasks → 1 ≤ W .task i .run) → Lawful (systemOf W)
   lawful pos = lawful-with W (blocking W) (additions W) pos blocking-rises additions-rise

@@ -9,10 +9,10 @@ use native.Mathlib.Omega.{arith}
 use lib.Dec.{leb}
 use lib.ListN.{take, replicate}
 use borrow.Author.Tests.{le-leb, lt-leb, leb-true, leb-false}
-use Rattle.table.specs.Indexed.{sumTo}
+use Rattle.searches.specs.Indexed.{sumTo}
+use Rattle.searches.proofs.Sums.{sumTo-same, sumTo-mono, sumTo-add, sumTo-alike, sumTo-most}
 use Rattle.rounds.specs.Vector.{sum}
-use Rattle.equations.specs.Bag.{bagTo, insert, downwards, largest}
-use Rattle.equations.proofs.Sums.{sumTo-same, sumTo-mono, sumTo-add, sumTo-all, sumTo-most}
+use Rattle.equations.specs.Bag.{bagTo, insert, downwards, sumOfLargest}
 
 -- ---- how many reach y
 
@@ -23,20 +23,32 @@ abbrev pub tally : ℕ → List ℕ → ℕ
 tally y [] = 0
 tally y (a ∷ l) = hit y a + tally y l
 
-hit-yes : (y a : ℕ) → y ≤ a → hit y a ≡ 1
-hit-yes y a h = rw (le-leb y a h)
+-- a number counts where it reaches y
+pub part-yes : (y a c : ℕ) → y ≤ a → cond (leb y a) c 0 ≡ c
+part-yes y a c h = rw (le-leb y a h)
 
-hit-no : (y a : ℕ) → a < y → hit y a ≡ 0
-hit-no y a h = rw (lt-leb y a h)
+-- and not where it doesn't
+pub part-no : (y a c : ℕ) → a < y → cond (leb y a) c 0 ≡ 0
+part-no y a c h = rw (lt-leb y a h)
+
+-- a part is no larger than the whole
+pub part-most : (t : Bool) (c : ℕ) → cond t c 0 ≤ c
+part-most true c = le-refl c
+part-most false c = omega arith
+
+-- and rises with it
+pub part-mono : (t : Bool) (a c : ℕ) → a ≤ c → cond t a 0 ≤ cond t c 0
+part-mono true a c h = h
+part-mono false a c h = omega arith
 
 hit-falls : (y z a : ℕ) → y ≤ z → hit z a ≤ hit y a
 hit-falls y z a h = go (decLe y a) (decLe z a)
   where
     go : Dec (y ≤ a) → Dec (z ≤ a) → hit z a ≤ hit y a
-    go (yes p) (yes q) = omega (arith, hit-yes y a p, hit-yes z a q)
-    go (yes p) (no q) = omega (arith, hit-yes y a p, hit-no z a (omega arith))
+    go (yes p) (yes q) = omega (arith, part-yes y a 1 p, part-yes z a 1 q)
+    go (yes p) (no q) = omega (arith, part-yes y a 1 p, part-no z a 1 (omega arith))
     go (no p) (yes q) = absurd (omega arith)
-    go (no p) (no q) = omega (arith, hit-no y a (omega arith), hit-no z a (omega arith))
+    go (no p) (no q) = omega (arith, part-no y a 1 (omega arith), part-no z a 1 (omega arith))
 
 tally-falls : (y z : ℕ) (l : List ℕ) → y ≤ z → tally z l ≤ tally y l
 tally-falls y z [] h = omega arith
@@ -44,21 +56,21 @@ tally-falls y z (a ∷ l) h = omega (arith, hit-falls y z a h, tally-falls y z l
 
 -- ---- a sum by layers
 
-hit-layers : (m a : ℕ) → sumTo m (λ y. hit (suc y) a) ≡ min m a
+hit-layers : (m a : ℕ) → sumTo (λ y. hit (suc y) a) m ≡ min m a
 unfolding sumTo
 hit-layers zero a = omega arith
 hit-layers (suc m) a = go (decLe (suc m) a) (hit-layers m a)
   where
-    go : Dec (suc m ≤ a) → sumTo m (λ y. hit (suc y) a) ≡ min m a → sumTo m (λ y. hit (suc y) a) + hit (suc m) a ≡ min (suc m) a
-    go (yes p) h = omega (arith, hit-yes (suc m) a p)
-    go (no p) h = omega (arith, hit-no (suc m) a (omega arith))
+    go : Dec (suc m ≤ a) → sumTo (λ y. hit (suc y) a) m ≡ min m a → sumTo (λ y. hit (suc y) a) m + hit (suc m) a ≡ min (suc m) a
+    go (yes p) h = omega (arith, part-yes (suc m) a 1 p)
+    go (no p) h = omega (arith, part-no (suc m) a 1 (omega arith))
 
-sum-layers : (m : ℕ) (l : List ℕ) → tally (suc m) l ≡ 0 → sum l ≡ sumTo m (λ y. tally (suc y) l)
-sum-layers m [] h = omega (arith, sumTo-all m 0)
+sum-layers : (m : ℕ) (l : List ℕ) → tally (suc m) l ≡ 0 → sum l ≡ sumTo (λ y. tally (suc y) l) m
+sum-layers m [] h = omega (arith, sumTo-alike (λ y. 0) m 0 (λ y p. refl))
 sum-layers m (a ∷ l) h = go (decLe (suc m) a) (sum-layers m l (omega arith))
   where
-    go : Dec (suc m ≤ a) → sum l ≡ sumTo m (λ y. tally (suc y) l) → a + sum l ≡ sumTo m (λ y. hit (suc y) a + tally (suc y) l)
-    go (yes p) e = absurd (omega (arith, hit-yes (suc m) a p))
+    go : Dec (suc m ≤ a) → sum l ≡ sumTo (λ y. tally (suc y) l) m → a + sum l ≡ sumTo (λ y. hit (suc y) a + tally (suc y) l) m
+    go (yes p) e = absurd (omega (arith, part-yes (suc m) a 1 p))
     go (no p) e = omega (arith, hit-layers m a, sumTo-add (λ y. hit (suc y) a) (λ y. tally (suc y) l) m)
 
 -- ---- sorting
@@ -83,10 +95,10 @@ insert-sorted a (b ∷ l) h = go (leb b a) refl (insert-sorted a l (h .1))
     go : (t : Bool) → leb b a ≡ t → Sorted (insert a l) → Sorted (cond t (a ∷ b ∷ l) (b ∷ insert a l))
     go true e more =
         let p : b ≤ a = leb-true b a e in
-        (omega (arith, hit-no (suc a) b (omega arith), tally-falls (suc b) (suc a) l (omega arith), h .0), h)
+        (omega (arith, part-no (suc a) b 1 (omega arith), tally-falls (suc b) (suc a) l (omega arith), h .0), h)
     go false e more =
         let p : a < b = leb-false b a e in
-        (omega (arith, insert-tally (suc b) a l, hit-no (suc b) a (omega arith), h .0), more)
+        (omega (arith, insert-tally (suc b) a l, part-no (suc b) a 1 (omega arith), h .0), more)
 
 downwards-tally : (y : ℕ) (l : List ℕ) → tally y (downwards l) ≡ tally y l
 downwards-tally y [] = refl
@@ -102,12 +114,12 @@ take-tally (suc x) y [] h = omega arith
 take-tally (suc x) y (a ∷ l) h = go (decLe y a) (take-tally x y l (h .1))
   where
     go : Dec (y ≤ a) → tally y (take x l) ≡ min x (tally y l) → hit y a + tally y (take x l) ≡ min (suc x) (hit y a + tally y l)
-    go (yes p) e = omega (arith, hit-yes y a p)
-    go (no p) e = omega (arith, hit-no y a (omega arith), tally-falls (suc a) y l (omega arith), h .0)
+    go (yes p) e = omega (arith, part-yes y a 1 p)
+    go (no p) e = omega (arith, part-no y a 1 (omega arith), tally-falls (suc a) y l (omega arith), h .0)
 
 -- the sum of the x largest by layers.
-pub largest-layers : (m x : ℕ) (b : List ℕ) → tally (suc m) b ≡ 0 → largest x b ≡ sumTo m (λ y. min x (tally (suc y) b))
-unfolding largest
+pub largest-layers : (m x : ℕ) (b : List ℕ) → tally (suc m) b ≡ 0 → sumOfLargest x b ≡ sumTo (λ y. min x (tally (suc y) b)) m
+unfolding sumOfLargest
 largest-layers m x b h =
     sum-layers m (take x (downwards b)) (omega (arith, each (suc m)))
     ∙ sumTo-same (λ y. tally (suc y) (take x (downwards b))) (λ y. min x (tally (suc y) b)) m (λ y p. each (suc y))
@@ -119,7 +131,7 @@ largest-layers m x b h =
 
 -- how many of the first k numbers, each as often as repeats says, reach y.
 abbrev pub reach : ℕ → (ℕ → ℕ) → (ℕ → ℕ) → ℕ → ℕ
-reach k length repeats y = sumTo k (λ j. cond (leb y (length j)) (repeats j) 0)
+reach k length repeats y = sumTo (λ j. cond (leb y (length j)) (repeats j) 0) k
 
 replicate-tally : (y n a : ℕ) (l : List ℕ) → tally y (replicate n a ++ l) ≡ cond (leb y a) n 0 + tally y l
 replicate-tally y zero a l = go (leb y a)
@@ -142,40 +154,36 @@ bag-tally (suc k) length repeats y =
 -- heights above all numbers are not reached.
 pub reach-none : (m k : ℕ) (length repeats : ℕ → ℕ) (y : ℕ) → ((j : ℕ) → j < k → length j ≤ m) → m < y → reach k length repeats y ≡ 0
 reach-none m k length repeats y h p =
-    sumTo-same (λ j. cond (leb y (length j)) (repeats j) 0) (λ j. 0) k (λ j q. rw (lt-leb y (length j) (omega (arith, h j q)))) ∙ omega (arith, sumTo-all k 0)
+    omega (arith, sumTo-alike (λ j. cond (leb y (length j)) (repeats j) 0) k 0 (λ j q. part-no y (length j) (repeats j) (omega (arith, h j q))))
 
 -- Σ(x) of such a bag, where nothing in it is above m.
 pub bag-layers-in : (m x k : ℕ) (length repeats : ℕ → ℕ) → reach k length repeats (suc m) ≡ 0
-    → largest x (bagTo k length repeats) ≡ sumTo m (λ y. min x (reach k length repeats (suc y)))
+    → sumOfLargest x (bagTo k length repeats) ≡ sumTo (λ y. min x (reach k length repeats (suc y))) m
 bag-layers-in m x k length repeats h =
     largest-layers m x (bagTo k length repeats) (bag-tally k length repeats (suc m) ∙ h)
     ∙ sumTo-same _ _ m (λ y p. ap (min x) (bag-tally k length repeats (suc y)))
 
 -- it is at most x repeats m.
-pub bag-most-in : (m x k : ℕ) (length repeats : ℕ → ℕ) → reach k length repeats (suc m) ≡ 0 → largest x (bagTo k length repeats) ≤ m * x
+pub bag-most-in : (m x k : ℕ) (length repeats : ℕ → ℕ) → reach k length repeats (suc m) ≡ 0 → sumOfLargest x (bagTo k length repeats) ≤ m * x
 bag-most-in m x k length repeats h =
     omega (arith, bag-layers-in m x k length repeats h, sumTo-most (λ y. min x (reach k length repeats (suc y))) m x (λ y p. omega arith))
 
 -- the same where no number is above m, in the bag or not.
 pub bag-layers : (m x k : ℕ) (length repeats : ℕ → ℕ) → ((j : ℕ) → j < k → length j ≤ m)
-    → largest x (bagTo k length repeats) ≡ sumTo m (λ y. min x (reach k length repeats (suc y)))
+    → sumOfLargest x (bagTo k length repeats) ≡ sumTo (λ y. min x (reach k length repeats (suc y))) m
 bag-layers m x k length repeats h = bag-layers-in m x k length repeats (reach-none m k length repeats (suc m) h (le-refl (suc m)))
 
-pub bag-most : (m x k : ℕ) (length repeats : ℕ → ℕ) → ((j : ℕ) → j < k → length j ≤ m) → largest x (bagTo k length repeats) ≤ m * x
+pub bag-most : (m x k : ℕ) (length repeats : ℕ → ℕ) → ((j : ℕ) → j < k → length j ≤ m) → sumOfLargest x (bagTo k length repeats) ≤ m * x
 bag-most m x k length repeats h = bag-most-in m x k length repeats (reach-none m k length repeats (suc m) h (le-refl (suc m)))
 
 -- more repeats give no smaller Σ(x).
 pub bag-mono : (m x k : ℕ) (length repeats more : ℕ → ℕ) → ((j : ℕ) → j < k → length j ≤ m) → ((j : ℕ) → j < k → repeats j ≤ more j)
-    → largest x (bagTo k length repeats) ≤ largest x (bagTo k length more)
+    → sumOfLargest x (bagTo k length repeats) ≤ sumOfLargest x (bagTo k length more)
 bag-mono m x k length repeats more h le =
     omega (
       arith,
       bag-layers m x k length repeats h,
       bag-layers m x k length more h,
       sumTo-mono (λ y. min x (reach k length repeats (suc y))) (λ y. min x (reach k length more (suc y))) m
-          (λ y p. omega (arith, sumTo-mono (λ j. cond (leb (suc y) (length j)) (repeats j) 0) (λ j. cond (leb (suc y) (length j)) (more j) 0) k (λ j q. go (leb (suc y) (length j)) j (le j q)))),
+          (λ y p. omega (arith, sumTo-mono _ _ k (λ j q. part-mono (leb (suc y) (length j)) (repeats j) (more j) (le j q)))),
     )
-  where
-    go : (t : Bool) (j : ℕ) → repeats j ≤ more j → cond t (repeats j) 0 ≤ cond t (more j) 0
-    go true j p = p
-    go false j p = omega arith

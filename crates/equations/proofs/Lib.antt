@@ -1,4 +1,3 @@
-pub mod Sums
 pub mod Counting
 pub mod Layers
 pub mod Lawful

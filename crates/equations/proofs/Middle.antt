@@ -1,7 +1,7 @@
 -- The uses of a task's middle set stand side by side, and those of lower tasks outside it after them.
 use Prim.Native.Nat.{ℕ, _+_, max, _≤_, _<_}
-use mathlib.Core.Path.{_≡_, refl, sym, ap}
-use mathlib.Core.Bool.{Bool, true, false, cond, _&&_}
+use mathlib.Core.Path.{_≡_, sym, ap}
+use mathlib.Core.Bool.{true, false, cond, _&&_, and-false}
 use mathlib.Core.List.{List}
 use native.Mathlib.Decide.{decLt}
 use native.Mathlib.Omega.{arith}
@@ -14,11 +14,6 @@ use Rattle.equations.specs.View.{viewOf}
 use Rattle.equations.specs.Equations.{ceiling, reaches, middle, outside, extra}
 use Rattle.equations.specs.Ready.{CeilingsAre, UsesFrom, Longest}
 
--- no test counts behind one that fails
-and-false : (a b : Bool) → b ≡ false → a && b ≡ false
-and-false true b e = e
-and-false false b e = refl
-
 module _ (s : List ℕ) (h : Shape) (settings : List ℕ) (i : ℕ) (first end : ℕ)
     (f : UsesFrom s h (taskOf s i .priority) first) (e : UsesFrom s h (getD settings i 0 + 1) end) where
   -- a use before the first, or from the end on, is not of the middle set
@@ -28,8 +23,8 @@ module _ (s : List ℕ) (h : Shape) (settings : List ℕ) (i : ℕ) (first end :
       go : Dec (k < first) → ltb (useOf s (h .«uses_at») k .priority) (taskOf s i .priority) && ltb (getD settings i 0) (useOf s (h .«uses_at») k .priority) ≡ false
       go (yes b) = rw (le-ltb (useOf s (h .«uses_at») k .priority) (taskOf s i .priority) (f .before k b))
       go (no b) =
-          and-false (ltb (useOf s (h .«uses_at») k .priority) (taskOf s i .priority)) _
-          (le-ltb (getD settings i 0) (useOf s (h .«uses_at») k .priority) (omega (arith, e .after k (out (omega arith)) l)))
+          rw (le-ltb (getD settings i 0) (useOf s (h .«uses_at») k .priority) (omega (arith, e .after k (out (omega arith)) l)))
+          (and-false (ltb (useOf s (h .«uses_at») k .priority) (taskOf s i .priority)))
 
   -- one from the first to before the end is
   pub is-middle : (k : ℕ) → first ≤ k → k < end → middle (viewOf s h settings) i (useOf s (h .«uses_at») k .priority) ≡ true
@@ -47,8 +42,8 @@ module _ (s : List ℕ) (h : Shape) (settings : List ℕ) (i : ℕ) (first end :
       go : Dec (k < first) → ltb (useOf s (h .«uses_at») k .priority) (taskOf s i .priority) && leb (useOf s (h .«uses_at») k .priority) (getD settings i 0) ≡ false
       go (yes b) = rw (le-ltb (useOf s (h .«uses_at») k .priority) (taskOf s i .priority) (f .before k b))
       go (no b) =
-          and-false (ltb (useOf s (h .«uses_at») k .priority) (taskOf s i .priority)) _
-          (lt-leb (useOf s (h .«uses_at») k .priority) (getD settings i 0) (omega (arith, e .before k (omega arith))))
+          rw (lt-leb (useOf s (h .«uses_at») k .priority) (getD settings i 0) (omega (arith, e .before k (omega arith))))
+          (and-false (ltb (useOf s (h .«uses_at») k .priority) (taskOf s i .priority)))
 
   -- all later ones are
   is-outside : (k : ℕ) → max first end ≤ k → k < h .uses → outside (viewOf s h settings) i (useOf s (h .«uses_at») k .priority) ≡ true

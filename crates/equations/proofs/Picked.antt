@@ -5,12 +5,12 @@ use mathlib.Core.Bool.{Bool, true, false, cond, _&&_}
 use native.Mathlib.Nat.{le-refl, le-trans, mul-le-mul, add-mul, mul-add, mul-comm, mul-zero, min-zero}
 use native.Mathlib.Omega.{arith}
 use lib.Dec.{leb, ltb}
-use borrow.Author.Tests.{le-leb, lt-leb, ltb-true, ltb-false, leb-true, leb-false}
-use Rattle.table.specs.Indexed.{sumTo}
+use borrow.Author.Tests.{le-leb, ltb-true, ltb-false, leb-true, leb-false}
+use Rattle.searches.specs.Indexed.{sumTo}
+use Rattle.searches.proofs.Sums.{sumTo-mono, sumTo-flat, sumTo-alike, sumTo-most}
 use Rattle.equations.specs.declared.picks.Pick.{Pick}
 use Rattle.equations.specs.Picking.{pickTo}
-use Rattle.equations.proofs.Sums.{sumTo-mono, sumTo-flat, sumTo-alike, sumTo-most}
-use Rattle.equations.proofs.Layers.{reach}
+use Rattle.equations.proofs.Layers.{part-yes, part-no, part-most, reach}
 
 -- ---- what a pick is
 
@@ -19,16 +19,6 @@ pub record Picked (f : ℕ → ℕ) (b : ℕ) (p : Pick) : Type 0 where
   pub below : p .length < b
   pub gap : (y : ℕ) → p .length < y → y ≤ b → f y ≡ f b
   pub more : f (p .length) ≡ f b + p .times
-
-part-yes : (y l c : ℕ) → y ≤ l → cond (leb y l) c 0 ≡ c
-part-yes y l c h = rw (le-leb y l h)
-
-part-no : (y l c : ℕ) → l < y → cond (leb y l) c 0 ≡ 0
-part-no y l c h = rw (lt-leb y l h)
-
-part-most : (t : Bool) (c : ℕ) → cond t c 0 ≤ c
-part-most true c = le-refl c
-part-most false c = omega arith
 
 module _ (lengths times : ℕ → ℕ) (b : ℕ) (pos : 1 ≤ b) where
   pub picked : (k : ℕ) → Picked (reach k lengths times) b (pickTo lengths times b k)
@@ -110,7 +100,7 @@ reach-most k lengths times c y h =
 
 -- with all numbers from b on taken into a, x of them at most: the whole is a, and what the layers below b have besides.
 abbrev pub layersTo : (ℕ → ℕ) → ℕ → ℕ → ℕ
-layersTo f x b = sumTo b (λ y. min x (f (suc y)))
+layersTo f x b = sumTo (λ y. min x (f (suc y))) b
 
 pub Taken : (ℕ → ℕ) → ℕ → ℕ → ℕ → ℕ → Type 0
 Taken f x whole b a = whole + b * min x (f b) ≡ a + layersTo f x b

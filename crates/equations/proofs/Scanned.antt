@@ -10,28 +10,28 @@ use lib.Dec.{eqb}
 use lib.ListN.{getD, length, set}
 use lib.Seq.{getD-set-same, getD-set-other}
 use borrow.Author.Tests.{eq-eqb, ne-eqb}
+use Rattle.searches.specs.Searches.{largest}
+use Rattle.searches.proofs.Searching.{largest-more}
 use Rattle.table.specs.declared.Shape.{Shape}
 use Rattle.table.specs.WellFormed.{taskOf, useOf, userOf, WellFormed}
 use Rattle.table.proofs.Laws.{place-has}
-use Rattle.equations.specs.Counting.{maxTo}
 use Rattle.equations.specs.Ready.{UsesFrom, reachingLength, Longest}
-use Rattle.equations.proofs.Counting.{max-more}
 
 -- ---- ceilings
 
 -- the ceiling of r over the first k uses, which start at a place
 abbrev pub ceilingTo : List ℕ → ℕ → ℕ → ℕ → ℕ
-ceilingTo s start k r = maxTo k (λ j. cond (eqb (useOf s start j .resource) r) (useOf s start j .priority) 0)
+ceilingTo s start k r = largest (λ j. cond (eqb (useOf s start j .resource) r) (useOf s start j .priority) 0) k
 
 pub ceilings-start : (s : List ℕ) (start r : ℕ) → 0 ≡ ceilingTo s start 0 r
-unfolding maxTo
+unfolding largest
 ceilings-start s start r = refl
 
 -- with one use more, the ceiling of its resource is raised to its priority
 pub ceilings-next : (s : List ℕ) (start k : ℕ) (found : List ℕ) (x new : ℕ) → length found ≡ 32 → ((r : ℕ) → r ≤ 16 → getD found r 0 ≡ ceilingTo s start k r)
     → x ≡ useOf s start k .resource → x ≤ 16 → new ≡ max (getD found x 0) (useOf s start k .priority)
     → (r : ℕ) → r ≤ 16 → getD (set found x new) r 0 ≡ ceilingTo s start (k + 1) r
-unfolding maxTo
+unfolding largest
 ceilings-next s start k found x new size inv own few e r l = rw add-one (go (ℕ-discrete r x))
   where
     go : Dec (r ≡ x) → getD (set found x new) r 0 ≡ max (ceilingTo s start k r) (cond (eqb (useOf s start k .resource) r) (useOf s start k .priority) 0)
@@ -85,4 +85,4 @@ pub longest-next : (s ceilings : List ℕ) (start p first k best new : ℕ) → 
     → new ≡ max best (reachingLength s ceilings start p k) → Longest s ceilings start p first (k + 1) new
 longest-next s ceilings start p first k best new l h e f none is =
     e ∙ ap (λ (x : ℕ). max x (reachingLength s ceilings start p k)) (h f none (λ j a b. is j a (omega arith)))
-    ∙ ap (max (maxTo k f)) (sym (is k l (omega arith))) ∙ sym (max-more k f)
+    ∙ ap (max (largest f k)) (sym (is k l (omega arith))) ∙ sym (largest-more f k)

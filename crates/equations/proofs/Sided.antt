@@ -1,24 +1,25 @@
 -- The right side put together: what the code knows of a task is what the definitions ask.
 use Prim.Native.Nat.{ℕ, zero, suc, _+_, _*_, max, _≤_, _<_}
 use mathlib.Core.Path.{_≡_, refl, sym, ap, _∙_}
-use mathlib.Core.Bool.{Bool, true, false, cond, _&&_}
+use mathlib.Core.Bool.{Bool, cond, _&&_}
 use mathlib.Core.List.{List, _++_}
 use native.Mathlib.Decide.{decLt, decLe}
+use native.Mathlib.Nat.{le-trans}
 use native.Mathlib.Omega.{arith}
 use lib.Dec.{leb}
 use lib.ListN.{getD, replicate}
 use borrow.Author.Tests.{le-leb, lt-leb, lt-ltb, le-ltb}
+use Rattle.searches.proofs.Searching.{largest-below}
 use Rattle.table.specs.Fields.{wordAt}
 use Rattle.table.specs.WellFormed.{taskOf, useOf}
 use Rattle.equations.specs.declared.Query.{Query}
 use Rattle.equations.specs.declared.picks.Sums.{Sums}
-use Rattle.equations.specs.Bag.{bagTo, largest}
+use Rattle.equations.specs.Bag.{bagTo, sumOfLargest}
 use Rattle.equations.specs.View.{viewOf}
 use Rattle.equations.specs.Equations.{repeats, bag, reaches, outside, extra, blocking, additions, rightSide}
 use Rattle.equations.specs.Picking.{lengthsOf, listed, timesOf, sumsOf, Picking}
 use Rattle.equations.specs.Ready.{Asking}
-use Rattle.equations.proofs.Counting.{maxTo-most}
-use Rattle.equations.proofs.Layers.{bag-most}
+use Rattle.equations.proofs.Layers.{part-most, bag-most}
 use Rattle.equations.proofs.Middle.{not-middle, is-middle, reaches-listed}
 
 -- bags with the same repeats are the same
@@ -67,12 +68,14 @@ module _ (s settings ceilings v : List ℕ) (q : Query) (t : ℕ) (g : Asking s 
 
   -- the sums are those of the task's bag
   pub sums-are : (p : Sums) → p ≡ sumsOf s ceilings v q t
-      → (p .less ≡ largest (taskOf s (q .task) .sleeps) (bag (viewOf s (q .shape) settings) (q .task) v t))
-      × (p .more ≡ largest (taskOf s (q .task) .sleeps + 1) (bag (viewOf s (q .shape) settings) (q .task) v t))
+      → (p .less ≡ sumOfLargest (taskOf s (q .task) .sleeps) (bag (viewOf s (q .shape) settings) (q .task) v t))
+      × (p .more ≡ sumOfLargest (taskOf s (q .task) .sleeps + 1) (bag (viewOf s (q .shape) settings) (q .task) v t))
   sums-are p e =
       let same = bag-same (q .shape .uses) (lengthsOf s (q .shape)) (listed s ceilings v q t) (repeats (viewOf s (q .shape) settings) (q .task) v t) listed-is in (
-        ap (λ (a : Sums). a .less) e ∙ ap (largest (q .sleeps)) same ∙ ap (λ (x : ℕ). largest x (bag (viewOf s (q .shape) settings) (q .task) v t)) (g .query .sleeps),
-        ap (λ (a : Sums). a .more) e ∙ ap (largest (q .sleeps + 1)) same ∙ ap (λ (x : ℕ). largest (x + 1) (bag (viewOf s (q .shape) settings) (q .task) v t)) (g .query .sleeps),
+        ap (λ (a : Sums). a .less) e ∙ ap (sumOfLargest (q .sleeps)) same
+            ∙ ap (λ (x : ℕ). sumOfLargest x (bag (viewOf s (q .shape) settings) (q .task) v t)) (g .query .sleeps),
+        ap (λ (a : Sums). a .more) e ∙ ap (sumOfLargest (q .sleeps + 1)) same
+            ∙ ap (λ (x : ℕ). sumOfLargest (x + 1) (bag (viewOf s (q .shape) settings) (q .task) v t)) (g .query .sleeps),
       )
 
   -- they are small, and so is B0
@@ -87,18 +90,15 @@ module _ (s settings ceilings v : List ℕ) (q : Query) (t : ℕ) (g : Asking s 
   pub extra-most : q .extra ≤ 1000000
   unfolding extra
   extra-most =
+      let W = viewOf s (q .shape) settings in
+      let used = useOf s (q .shape .«uses_at») in
+      let counts : ℕ → Bool = λ k. outside W (q .task) (used k .priority) && reaches W (q .task) k in
       omega (
         arith,
         g .query .extra,
-        maxTo-most
-            (λ k. cond (outside (viewOf s (q .shape) settings) (q .task) (useOf s (q .shape .«uses_at») k .priority) && reaches (viewOf s (q .shape) settings) (q .task) k) (useOf s (q .shape .«uses_at») k .length) 0)
-            (q .shape .uses) 1000000
-            (λ k l. go (outside (viewOf s (q .shape) settings) (q .task) (useOf s (q .shape .«uses_at») k .priority) && reaches (viewOf s (q .shape) settings) (q .task) k) k (g .ready .well .use-range k l .length-most)),
+        largest-below (λ k. cond (counts k) (used k .length) 0) (q .shape .uses) 1000000
+            (λ k l. le-trans (part-most (counts k) (used k .length)) (g .ready .well .use-range k l .length-most)),
       )
-    where
-      go : (b : Bool) (k : ℕ) → useOf s (q .shape .«uses_at») k .length ≤ 1000000 → cond b (useOf s (q .shape .«uses_at») k .length) 0 ≤ 1000000
-      go true k l = l
-      go false k l = omega arith
 
   -- all together
   pub side-is : (run sleep block add : ℕ) (p : Sums) → p ≡ sumsOf s ceilings v q t → run ≡ wordAt s (20 * q .task + 4) → sleep ≡ wordAt s (20 * q .task + 8)

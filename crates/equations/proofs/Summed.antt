@@ -5,7 +5,7 @@ use native.Mathlib.Omega.{arith}
 use Rattle.equations.specs.declared.picks.Pick.{Pick}
 use Rattle.equations.specs.declared.picks.Tally.{Tally}
 use Rattle.equations.specs.declared.picks.Sums.{Sums}
-use Rattle.equations.specs.Bag.{bagTo, largest}
+use Rattle.equations.specs.Bag.{bagTo, sumOfLargest}
 use Rattle.equations.specs.Picking.{pickTo, tallied, Small}
 use Rattle.equations.proofs.Layers.{reach, reach-none, bag-layers, bag-most}
 use Rattle.equations.proofs.Picked.{Picked, picked, picked-some, reach-falls, Taken, taken-start, taken-next, taken-enough, taken-all, taken-most}
@@ -20,7 +20,7 @@ module _ (lengths times : ℕ → ℕ) (m x : ℕ) where
 
   -- the bag
   abbrev whole : ℕ → ℕ
-  whole n = largest n (bagTo m lengths times)
+  whole n = sumOfLargest n (bagTo m lengths times)
 
   -- between picks
   pub record Summing (a : Tally) : Type 0 where

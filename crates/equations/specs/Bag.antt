@@ -21,5 +21,5 @@ downwards [] = []
 downwards (a ∷ l) = insert a (downwards l)
 
 -- Σ(x): the sum of the x largest, or of all if there are fewer
-unfoldable pub largest : ℕ → List ℕ → ℕ
-largest x bag = sum (take x (downwards bag))
+unfoldable pub sumOfLargest : ℕ → List ℕ → ℕ
+sumOfLargest x bag = sum (take x (downwards bag))

@@ -3,16 +3,17 @@ use Prim.Native.Nat.{ℕ, _+_, _-_, _*_, max}
 use mathlib.Core.Bool.{Bool, cond, _&&_}
 use mathlib.Core.List.{List}
 use lib.Dec.{ltb, leb, eqb}
-use Rattle.table.specs.Indexed.{sumTo, every}
+use Rattle.searches.specs.Searches.{largest}
+use Rattle.searches.specs.Indexed.{sumTo, every}
 use Rattle.rounds.specs.Vector.{at}
 use Rattle.rounds.specs.System.{System}
-use Rattle.equations.specs.Counting.{ceil, maxTo}
-use Rattle.equations.specs.Bag.{bagTo, largest}
+use Rattle.equations.specs.Counting.{ceil}
+use Rattle.equations.specs.Bag.{bagTo, sumOfLargest}
 use Rattle.equations.specs.View.{View}
 
 -- the ceiling of a resource: the highest priority among tasks with a use of it
 unfoldable pub ceiling : View → ℕ → ℕ
-ceiling W r = maxTo (W .uses) (λ k. cond (eqb (W .usage k .resource) r) (W .usage k .priority) 0)
+ceiling W r = largest (λ k. cond (eqb (W .usage k .resource) r) (W .usage k .priority) 0) (W .uses)
 
 -- whether use k is of a resource with a ceiling not below the priority of i
 abbrev pub reaches : View → ℕ → ℕ → Bool
@@ -37,13 +38,13 @@ bag W i v t = bagTo (W .uses) (λ k. W .usage k .length) (repeats W i v t)
 
 -- B0: the largest L among lower tasks outside the middle set; 0 if there is none
 unfoldable pub extra : View → ℕ → ℕ
-extra W i = maxTo (W .uses) (λ k. cond (outside W i (W .usage k .priority) && reaches W i k) (W .usage k .length) 0)
+extra W i = largest (λ k. cond (outside W i (W .usage k .priority) && reaches W i k) (W .usage k .length) 0) (W .uses)
 
 -- blocking: the larger of Σ(X + 1) and B0 + Σ(X)
 unfoldable pub blocking : View → ℕ → List ℕ → ℕ → ℕ
 blocking W i v t =
     let x = W .task i .sleeps in
-    max (largest (x + 1) (bag W i v t)) (extra W i + largest x (bag W i v t))
+    max (sumOfLargest (x + 1) (bag W i v t)) (extra W i + sumOfLargest x (bag W i v t))
 
 -- what a higher task j adds: with a setting not below the priority of i its sleep is charged, else its jitter
 abbrev pub addition : View → ℕ → List ℕ → ℕ → ℕ → ℕ
@@ -54,7 +55,7 @@ addition W i v t j =
 
 -- the additions of all higher tasks
 unfoldable pub additions : View → ℕ → List ℕ → ℕ → ℕ
-additions W i v t = sumTo (W .tasks) (λ j. cond (ltb (W .task i .priority) (W .task j .priority)) (addition W i v t j) 0)
+additions W i v t = sumTo (λ j. cond (ltb (W .task i .priority) (W .task j .priority)) (addition W i v t j) 0) (W .tasks)
 
 -- a part of a right side, by place, vector and t
 abbrev pub Part : Type 0

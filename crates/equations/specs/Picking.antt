@@ -12,7 +12,7 @@ use Rattle.equations.specs.declared.picks.Pick.{Pick}
 use Rattle.equations.specs.declared.picks.Tally.{Tally}
 use Rattle.equations.specs.declared.picks.Sums.{Sums}
 use Rattle.equations.specs.Counting.{ceil}
-use Rattle.equations.specs.Bag.{bagTo, largest}
+use Rattle.equations.specs.Bag.{bagTo, sumOfLargest}
 
 -- what is picked below a length once one length with its repeats is looked at
 abbrev pub merged : ℕ → Pick → ℕ → ℕ → Pick
@@ -53,7 +53,7 @@ listed s ceilings v q t k =
 abbrev pub sumsOf : List ℕ → List ℕ → List ℕ → Query → ℕ → Sums
 sumsOf s ceilings v q t =
     let bag = bagTo (q .shape .uses) (lengthsOf s (q .shape)) (listed s ceilings v q t) in
-    record { less = largest (q .sleeps) bag; more = largest (q .sleeps + 1) bag }
+    record { less = sumOfLargest (q .sleeps) bag; more = sumOfLargest (q .sleeps + 1) bag }
 
 -- what the picks are made on: an accepted table of bytes, a vector within a million, a length within a million
 pub record Picking (s v : List ℕ) (q : Query) (t : ℕ) : Type 0 where

@@ -5,12 +5,12 @@ use mathlib.Core.Bool.{cond}
 use mathlib.Core.List.{List, []}
 use lib.Dec.{leb}
 use lib.ListN.{getD, length}
+use Rattle.searches.specs.Searches.{largest}
 use Rattle.table.specs.declared.Shape.{Shape}
 use Rattle.table.specs.WellFormed.{taskOf, useOf, WellFormed}
 use Rattle.rounds.specs.Vector.{at as value}
 use Rattle.equations.specs.declared.At.{At}
 use Rattle.equations.specs.declared.Query.{Query}
-use Rattle.equations.specs.Counting.{maxTo}
 use Rattle.equations.specs.View.{viewOf}
 use Rattle.equations.specs.Equations.{ceiling, extra}
 
@@ -40,7 +40,7 @@ reachingLength s ceilings start p k = cond (leb p (value ceilings (useOf s start
 -- r is the largest of these from the first to before use n, those before the first counting as 0
 abbrev pub Longest : List ℕ → List ℕ → ℕ → ℕ → ℕ → ℕ → ℕ → Type 0
 Longest s ceilings start p first n r =
-    (f : ℕ → ℕ) → ((k : ℕ) → k < first → f k ≡ 0) → ((k : ℕ) → first ≤ k → k < n → f k ≡ reachingLength s ceilings start p k) → r ≡ maxTo n f
+    (f : ℕ → ℕ) → ((k : ℕ) → k < first → f k ≡ 0) → ((k : ℕ) → first ≤ k → k < n → f k ≡ reachingLength s ceilings start p k) → r ≡ largest f n
 
 -- q is what there is to know once of the task at place i, under the settings
 pub record QueryIs (s : List ℕ) (h : Shape) (settings : List ℕ) (i : ℕ) (q : Query) : Type 0 where

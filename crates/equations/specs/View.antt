@@ -4,10 +4,10 @@ use mathlib.Core.Bool.{cond}
 use mathlib.Core.List.{List}
 use lib.Dec.{ltb}
 use lib.ListN.{getD}
+use Rattle.searches.specs.Indexed.{every}
 use Rattle.table.specs.declared.Shape.{Shape}
 use Rattle.table.specs.declared.Task.{Task}
 use Rattle.table.specs.declared.Use.{Use}
-use Rattle.table.specs.Indexed.{every}
 use Rattle.table.specs.WellFormed.{taskOf, useOf, userOf}
 
 pub record View : Type 0 where

@@ -1,12 +1,13 @@
 -- The records of an accepted table, laid out one after the other, are its bytes.
 use Prim.Native.Nat.{ℕ, zero, suc, _+_, _*_, _/_, _%_, _-_, _<_, _≤_}
-use mathlib.Core.Path.{_≡_, refl, sym, ap, _∙_}
+use mathlib.Core.Path.{_≡_, sym, ap, _∙_}
 use mathlib.Core.List.{List, [], _∷_, _++_, append-assoc}
 use native.Mathlib.Nat.{add-zero}
 use native.Mathlib.Omega.{arith}
-use lib.ListN.{length, getD, take, drop, take-append-drop, drop-of-length-le}
-use lib.Seq.{drop-cons, drop-drop}
-use Rattle.table.specs.Indexed.{every}
+use lib.ListN.{length, getD, take, drop, length-drop, take-append-drop, drop-of-length-le}
+use lib.Seq.{getD-drop, drop-cons, drop-drop}
+use Rattle.searches.specs.Indexed.{every}
+use Rattle.searches.proofs.Indexed.{every-same, every-take}
 use Rattle.table.specs.declared.Shape.{Shape}
 use Rattle.table.specs.Fields.{wordAt, taskAt, useAt}
 use Rattle.table.specs.WellFormed.{taskOf, useOf, WellFormed}
@@ -14,14 +15,10 @@ use Rattle.held.specs.Writing.{wordBytes, taskBytes, useBytes, all}
 use Rattle.held.proofs.Laying.{laidOut}
 
 -- a part of a list, element by element
-part-every : (s : List ℕ) (k at i : ℕ) → at + i + k ≤ length s → take k (drop (at + i) s) ≡ every (λ (j : ℕ). getD s (at + j) 0) k i
-unfolding every
-part-every s zero at i h = refl
-part-every s (suc k) at i h =
-    let f : suc (at + i) ≡ at + (i + 1) = omega arith in
-    ap (take (suc k)) (drop-cons s (at + i) 0 (omega arith))
-    ∙ ap (λ (a : ℕ). getD s (at + i) 0 ∷ take k (drop a s)) f
-    ∙ ap (λ (l : List ℕ). getD s (at + i) 0 ∷ l) (part-every s k at (i + 1) (omega arith))
+part-every : (s : List ℕ) (at k : ℕ) → at + k ≤ length s → take k (drop at s) ≡ every (λ (j : ℕ). getD s (at + j) 0) k 0
+part-every s at k h =
+    sym (every-take (drop at s) 0 k 0 (omega (arith, length-drop at s)))
+    ∙ every-same (λ (j : ℕ). getD (drop at s) j 0) (λ (j : ℕ). getD s (at + j) 0) k 0 (λ j l. getD-drop at s j 0)
 
 -- the low byte of a number, and what is above it
 low : (a q : ℕ) → a < 256 → (a + 256 * q) % 256 ≡ a
@@ -56,14 +53,14 @@ module _ (s : List ℕ) (bytes : (i : ℕ) → getD s i 0 < 256) where
   unfolding every
   task-bytes at h k =
       let z : at + 0 ≡ at = omega arith in
-      cc (part-every s 20 at 0 (omega arith), k, z, word-bytes-at at 4, word-bytes-at at 8, word-bytes-at at 12, word-bytes-at at 16)
+      cc (part-every s at 20 h, k, z, word-bytes-at at 4, word-bytes-at at 8, word-bytes-at at 12, word-bytes-at at 16)
 
   -- and a use's its 8
   use-bytes : (at : ℕ) → at + 8 ≤ length s → getD s at 0 ≡ 2 → useBytes (useAt s at) ≡ take 8 (drop at s)
   unfolding every
   use-bytes at h k =
       let z : at + 0 ≡ at = omega arith in
-      cc (part-every s 8 at 0 (omega arith), k, z, word-bytes-at at 4)
+      cc (part-every s at 8 h, k, z, word-bytes-at at 4)
 
 -- what each record is of the bytes, all are
 module _ {A : Type 0} (e : A → List ℕ) (f : ℕ → A) (s : List ℕ) (pos : ℕ → ℕ) (step : ℕ) (on : (j : ℕ) → pos (j + 1) ≡ pos j + step) where

@@ -8,11 +8,11 @@ use native.Mathlib.Nat.{add-zero}
 use native.Mathlib.Omega.{arith}
 use lib.ListN.{length, set, take, drop, length-append}
 use lib.Seq.{sets, sets-eq, take-at, length-take-le, take-take, take-suc-set}
-use Rattle.table.specs.Indexed.{every}
+use Rattle.searches.specs.Indexed.{every}
+use Rattle.searches.proofs.Indexed.{every-more}
 use Rattle.table.specs.declared.Task.{Task}
 use Rattle.table.specs.declared.Use.{Use}
 use Rattle.held.specs.Writing.{wordBytes, taskBytes, useBytes, all}
-use Rattle.table.proofs.Indexed.{every-more}
 use Rattle.held.proofs.Joined.{all-append}
 
 -- ---- the front of a buffer after a store of several bytes

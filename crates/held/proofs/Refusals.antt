@@ -10,7 +10,9 @@ use lib.Dec.{ltb}
 use lib.ListN.{length, getD, length-append}
 use lib.Seq.{getD-append-seam}
 use borrow.Author.Tests.{lt-ltb, le-ltb}
-use Rattle.table.specs.Indexed.{every}
+use Rattle.searches.specs.Indexed.{every}
+use Rattle.searches.proofs.Testing.{impossible}
+use Rattle.searches.proofs.Indexed.{length-every}
 use Rattle.table.specs.declared.Refusal.{Refusal}
 use Rattle.table.specs.declared.Task.{Task}
 use Rattle.table.specs.declared.Use.{Use}
@@ -23,7 +25,6 @@ use Rattle.held.specs.declared.Table.{Table}
 use Rattle.held.specs.declared.Writing.{Writing}
 use Rattle.held.specs.declared.Writing.the-variants as answers
 use Rattle.held.specs.Writing.{taskBytes, useBytes, all, encode, decided, writeTable}
-use Rattle.table.proofs.Indexed.{length-every}
 use Rattle.held.proofs.Joined.{all-append}
 use Rattle.held.proofs.Laying.{laidOut, laid-out, use-priority}
 
@@ -93,13 +94,10 @@ pub refusals : (t : Table) (room : ℕ) (r : Refusal) → writeTable t room ≡ 
 unfolding decided
 refusals t room r e = go (readTable (encode t)) refl e
   where
-    never : {G : Type 0} → _≡_ {A = ℕ} 0 1 → G
-    never z = absurd (omega arith)
-
     ten : (b : Bool) → cond b (answers.Refused (record { number = 10; place = 0 })) (answers.Written (length (encode t))) ≡ answers.Refused r
         → r ≡ record { number = 10; place = 0 }
     ten true e = cc
-    ten false e = never (cc)
+    ten false e = absurd (impossible cc)
 
     go : (x : Reading) → readTable (encode t) ≡ x → decided x (length (encode t)) room ≡ answers.Refused r
         → ((3 ≤ r .number) × (r .number ≤ 6)) ⊎ (r ≡ record { number = 10; place = 0 })

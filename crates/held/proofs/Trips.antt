@@ -9,7 +9,9 @@ use lib.Dec.{ltb}
 use lib.ListN.{length, getD, take, drop, replicate}
 use lib.Seq.{take-at, take-all}
 use borrow.Author.Tests.{le-ltb}
-use Rattle.table.specs.Indexed.{every}
+use Rattle.searches.specs.Indexed.{every}
+use Rattle.searches.proofs.Testing.{impossible}
+use Rattle.searches.proofs.Indexed.{every-at, filled-at, every-same, every-take}
 use Rattle.table.specs.declared.Shape.{Shape}
 use Rattle.table.specs.declared.Task.{Task}
 use Rattle.table.specs.declared.Use.{Use}
@@ -27,7 +29,6 @@ use Rattle.held.specs.Loading.{filledBy, loadTable}
 use Rattle.held.specs.Replies.{countOf}
 use Rattle.held.specs.Writing.{encode, decided, writeTable, written}
 use Rattle.held.specs.Trips.{TaskSized, Sized, trimmed}
-use Rattle.table.proofs.Indexed.{every-at, filled-at, every-same, every-take}
 use Rattle.held.proofs.Laying.{laidOut, task-back, use-back}
 use Rattle.held.proofs.Again.{laid-again}
 use Rattle.held.proofs.Loads.{held-accepted}
@@ -83,11 +84,11 @@ record Told (r : Reading) (size room n : ℕ) : Type 0 where
 
 written-told : (r : Reading) (size room n : ℕ) → decided r size room ≡ answers.Written n → Told r size room n
 unfolding decided
-written-told (Refused f) size room n e = absurd (let z : _≡_ {A = ℕ} 0 1 = cc in omega arith)
+written-told (Refused f) size room n e = absurd (impossible cc)
 written-told (Accepted h) size room n e = record { shape = h; accepted = refl; all-of = go (ltb room size) e }
   where
     go : (b : Bool) → cond b (answers.Refused (record { number = 10; place = 0 })) (answers.Written size) ≡ answers.Written n → n ≡ size
-    go true e = absurd (let z : _≡_ {A = ℕ} 0 1 = cc in omega arith)
+    go true e = absurd (impossible cc)
     go false e = cc
 
 -- an accepted table's counts are within their limits

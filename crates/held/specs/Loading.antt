@@ -2,12 +2,12 @@
 use Prim.Native.Nat.{ℕ, _-_}
 use mathlib.Core.List.{List, _++_}
 use lib.ListN.{replicate}
+use Rattle.searches.specs.Indexed.{every}
 use Rattle.table.specs.declared.Task.{Task}
 use Rattle.table.specs.declared.Use.{Use}
 use Rattle.table.specs.declared.Reading.{Reading}
 use Rattle.table.specs.declared.Reading.the-variants.{Accepted, Refused}
 use Rattle.table.specs.Fields.{noTask, noUse}
-use Rattle.table.specs.Indexed.{every}
 use Rattle.table.specs.Reading.{readTable}
 use Rattle.table.specs.WellFormed.{taskOf, useOf}
 use Rattle.held.specs.declared.Table.{Table}

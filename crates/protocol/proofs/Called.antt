@@ -5,6 +5,7 @@ use mathlib.Core.Bool.{Bool, true, false}
 use Prim.Native.Nat.{ℕ, _≤_, _<_}
 use native.Mathlib.Omega.{arith}
 use lib.Dec.{ltb}
+use Rattle.searches.proofs.Testing.{impossible}
 use Rattle.protocol.specs.Tasks.{Table, priority}
 use Rattle.protocol.specs.State.{State}
 use Rattle.protocol.specs.Running.{systemCeiling, Rule}
@@ -13,7 +14,6 @@ use Rattle.protocol.specs.Acting.{admittedBy, admitted, own}
 use Rattle.protocol.specs.Step.{step}
 use Rattle.protocol.specs.Accepted.{Accepted, Lawful}
 use Rattle.protocol.specs.Trace.{Event, nothing, released, resumed, slept, ended, accepted, outcome}
-use Rattle.protocol.proofs.Testing.{impossible}
 use Rattle.protocol.proofs.Invariant.{Unfinished, Inv}
 use Rattle.protocol.proofs.Lows.{Awake, awake-live}
 use Rattle.protocol.proofs.Granted.{Granted, granted}

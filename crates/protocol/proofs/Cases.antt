@@ -3,8 +3,8 @@ use mathlib.Core.Path.{_≡_, refl}
 use mathlib.Core.List.{List, [], _∷_}
 use Prim.Native.Nat.{ℕ, zero, suc}
 use lib.Dec.{eqb}
+use Rattle.searches.specs.Searches.{first, best, all, some, largest, only}
 use Rattle.protocol.specs.Tasks.{Task, Table}
-use Rattle.protocol.specs.Searches.{first, best, all, some, largest, only}
 use Rattle.protocol.specs.State.{State, fresh}
 use Rattle.protocol.specs.Running.{ceiling, top, systemPriority, aboveSystem, running}
 use Rattle.protocol.specs.Fit.{used, named, fit}

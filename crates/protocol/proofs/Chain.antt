@@ -8,11 +8,11 @@ use native.Mathlib.Nat.{le-refl}
 use native.Mathlib.Omega.{arith}
 use lib.Dec.{eqb}
 use borrow.Author.Tests.{eqb-true, eq-eqb}
+use Rattle.searches.proofs.Testing.{impossible, and-true, true-and}
 use Rattle.protocol.specs.Tasks.{Table, priority}
 use Rattle.protocol.specs.State.{Section}
 use Rattle.protocol.specs.Running.{ceiling, top}
 use Rattle.protocol.specs.Acting.{same, has, skip, without}
-use Rattle.protocol.proofs.Testing.{impossible, and-true, true-and}
 
 -- The section s is in the list.
 abbrev pub In : Section → List Section → Type 0

@@ -6,13 +6,13 @@ use mathlib.Core.Bool.{true}
 use Prim.Native.Nat.{ℕ}
 use native.Mathlib.Omega.{arith}
 use lib.ListN.{length, length-append}
+use Rattle.searches.proofs.Testing.{impossible}
 use Rattle.protocol.specs.Tasks.{Table, priority}
 use Rattle.protocol.specs.State.{Entry, Section, State}
 use Rattle.protocol.specs.Running.{top, Rule}
 use Rattle.protocol.specs.Checks.{unlock}
 use Rattle.protocol.specs.Acting.{put, freed, section, without, closed, act}
 use Rattle.protocol.specs.Accepted.{Accepted, Lawful}
-use Rattle.protocol.proofs.Testing.{impossible}
 use Rattle.protocol.proofs.Entries.{put-each, woken-each}
 use Rattle.protocol.proofs.Chain.{In, Chain, in-left, in-snoc, chain-init, chain-top, chain-within, chain-before, in-has, without-last}
 use Rattle.protocol.proofs.Invariant.{Holder, Fits, Sound, Inv}

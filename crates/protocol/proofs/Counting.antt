@@ -6,12 +6,12 @@ use Prim.Native.Nat.{ℕ, zero, suc, _+_, _≤_, _<_}
 use native.Mathlib.Omega.{arith}
 use native.Mathlib.Decide.{decLt, decLe, ℕ-discrete}
 use lib.ListN.{length}
+use Rattle.searches.proofs.Testing.{impossible}
 use Rattle.protocol.specs.Tasks.{Table, priority}
 use Rattle.protocol.specs.State.{State}
 use Rattle.protocol.specs.Running.{Rule}
 use Rattle.protocol.specs.Trace.{Event, released, slept, ended, Waits, Has}
 use Rattle.protocol.specs.ShortWaits.{Among, Distinct, Counts, Met}
-use Rattle.protocol.proofs.Testing.{impossible}
 use Rattle.protocol.proofs.Invariant.{Unfinished}
 use Rattle.protocol.proofs.Lows.{awake-live}
 use Rattle.protocol.proofs.Runs.{Link, by-call, by-change, Run, next}

@@ -2,8 +2,8 @@
 use mathlib.Core.Path.{_≡_, refl, sym, ap, _∙_}
 use mathlib.Core.List.{[], _∷_, _++_}
 use Prim.Native.Nat.{ℕ, _<_}
+use Rattle.searches.specs.Searches.{Place, nowhere, at}
 use Rattle.protocol.specs.Tasks.{Table, priority}
-use Rattle.protocol.specs.Searches.{Place, nowhere, at}
 use Rattle.protocol.specs.State.{State}
 use Rattle.protocol.specs.Running.{Rule, running}
 use Rattle.protocol.specs.Checks.{Call, release, resume, lock, unlock, suspend, complete, Ruling, refuse, grant, ruling}

@@ -4,10 +4,11 @@ use mathlib.Core.Bool.{Bool, true, false, _&&_}
 use Prim.Native.Nat.{ℕ, _≤_, _<_}
 use lib.Dec.{ltb, eqb}
 use borrow.Author.Tests.{ltb-true, ltb-false, lt-ltb, eqb-true, eqb-false}
+use Rattle.searches.proofs.Testing.{and-true}
 use Rattle.protocol.specs.Tasks.{Table, priority}
 use Rattle.protocol.specs.State.{Entry, ready, waiting, isWaiting}
 use Rattle.protocol.specs.Acting.{pick, put, become, woken}
-use Rattle.protocol.proofs.Testing.{and-true, waiting-is}
+use Rattle.protocol.proofs.Testing.{waiting-is}
 
 -- what holds of either entry, by the test, holds of the one picked
 pick-each : (Q : Entry → Type 0) (b : Bool) {x y : Entry} → (b ≡ true → Q x) → (b ≡ false → Q y) → Q (pick b x y)

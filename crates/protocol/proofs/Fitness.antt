@@ -7,12 +7,12 @@ use Prim.Native.Nat.{_<_}
 use lib.Dec.{ltb}
 use lib.ListN.{length}
 use borrow.Author.Tests.{le-leb, lt-ltb}
+use Rattle.searches.proofs.Testing.{true-and}
+use Rattle.searches.proofs.Searching.{all-true, some-true}
 use Rattle.protocol.specs.Tasks.{Table, priority, setting}
 use Rattle.protocol.specs.State.{Section, State}
 use Rattle.protocol.specs.Fit.{used, named, fit}
 use Rattle.protocol.specs.Accepted.{Accepted}
-use Rattle.protocol.proofs.Testing.{true-and}
-use Rattle.protocol.proofs.Searching.{all-true, some-true}
 use Rattle.protocol.proofs.Chain.{In}
 use Rattle.protocol.proofs.Invariant.{Sound}
 use Rattle.protocol.proofs.Lows.{holder-inside}

@@ -5,14 +5,15 @@ use Prim.Native.Nat.{ℕ, _<_}
 use lib.Dec.{ltb, eqb}
 use lib.ListN.{length}
 use borrow.Author.Tests.{ltb-true, eqb-true, not-true}
+use Rattle.searches.specs.Searches.{Place, nowhere, at, first}
+use Rattle.searches.proofs.Testing.{impossible, and-true}
+use Rattle.searches.proofs.Searching.{first-found}
 use Rattle.protocol.specs.Tasks.{Table, priority}
-use Rattle.protocol.specs.Searches.{Place, nowhere, at, first}
 use Rattle.protocol.specs.State.{none, asleep, Entry, State, serial, holds, isNone, isAsleep}
 use Rattle.protocol.specs.Running.{Rule, running}
 use Rattle.protocol.specs.Fit.{fit}
 use Rattle.protocol.specs.Checks.{Call, release, resume, lock, unlock, suspend, complete, Ruling, grant, demand, found, numbered, checks, ruling}
-use Rattle.protocol.proofs.Testing.{impossible, and-true, none-is, asleep-is}
-use Rattle.protocol.proofs.Searching.{first-found}
+use Rattle.protocol.proofs.Testing.{none-is, asleep-is}
 use Rattle.protocol.proofs.Runner.{free-held}
 
 -- The job at the place i has the number p, n.

@@ -4,8 +4,8 @@ use mathlib.Core.List.{List}
 use mathlib.Core.Bool.{true}
 use Prim.Native.Nat.{ℕ, _≤_, _<_}
 use lib.ListN.{length}
+use Rattle.searches.specs.Searches.{at}
 use Rattle.protocol.specs.Tasks.{Table, priority, setting}
-use Rattle.protocol.specs.Searches.{at}
 use Rattle.protocol.specs.State.{none, ready, waiting, asleep, Entry, Section, State}
 use Rattle.protocol.specs.Running.{top, Rule, running}
 use Rattle.protocol.specs.Acting.{section}

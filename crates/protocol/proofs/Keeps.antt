@@ -5,13 +5,13 @@ use Prim.Native.Nat.{ℕ, _≤_, _<_}
 use native.Mathlib.Omega.{arith}
 use lib.Dec.{ltb}
 use borrow.Author.Tests.{ltb-true, ltb-false}
+use Rattle.searches.proofs.Testing.{impossible}
 use Rattle.protocol.specs.Tasks.{Table, priority, setting}
 use Rattle.protocol.specs.State.{Status, none, ready, asleep, Entry, Section, State}
 use Rattle.protocol.specs.Running.{systemCeiling, Rule}
 use Rattle.protocol.specs.Checks.{release, resume, suspend, complete}
 use Rattle.protocol.specs.Acting.{put, become, slept, admittedBy, admitted, own, section, act}
 use Rattle.protocol.specs.Accepted.{Accepted}
-use Rattle.protocol.proofs.Testing.{impossible}
 use Rattle.protocol.proofs.Entries.{put-each}
 use Rattle.protocol.proofs.Chain.{In, low, high, chain-top}
 use Rattle.protocol.proofs.Invariant.{Holder, Fits, Sound, Inv}

@@ -1,5 +1,4 @@
 pub mod Testing
-pub mod Searching
 pub mod Entries
 pub mod Chain
 pub mod Invariant

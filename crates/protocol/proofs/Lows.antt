@@ -5,12 +5,12 @@ use mathlib.Core.Bool.{Bool, true, false}
 use Prim.Native.Nat.{ℕ, _≤_, _<_}
 use native.Mathlib.Omega.{arith}
 use native.Mathlib.Decide.{decLt}
+use Rattle.searches.proofs.Testing.{impossible}
 use Rattle.protocol.specs.Tasks.{Table, priority}
 use Rattle.protocol.specs.State.{Status, none, ready, waiting, asleep, Section, State, holds}
 use Rattle.protocol.specs.Running.{ceiling, systemCeiling, systemPriority, Rule}
 use Rattle.protocol.specs.Acting.{section}
 use Rattle.protocol.specs.Accepted.{Accepted, Lawful}
-use Rattle.protocol.proofs.Testing.{impossible}
 use Rattle.protocol.proofs.Chain.{In, low, high, chain-last, chain-order, chain-within}
 use Rattle.protocol.proofs.Invariant.{Sound}
 use Rattle.protocol.proofs.Runner.{held-holds, Runs}

@@ -6,8 +6,8 @@ use Prim.Native.Nat.{ℕ, zero, suc, _+_, _-_, _/_, _%_, _≤_, _<_}
 use native.Mathlib.Omega.{arith}
 use native.Mathlib.Decide.{decLe}
 use borrow.Author.Tests.{eq-eqb, ne-eqb}
+use Rattle.searches.specs.Searches.{only}
 use Rattle.protocol.specs.Tasks.{Table, priority}
-use Rattle.protocol.specs.Searches.{only}
 use Rattle.protocol.specs.State.{State}
 use Rattle.protocol.specs.Running.{systemCeiling, Rule}
 use Rattle.protocol.specs.Checks.{Call, release, resume, lock, unlock, suspend, complete, Ruling, refuse, grant, ruling}

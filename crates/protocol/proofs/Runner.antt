@@ -6,12 +6,13 @@ use native.Mathlib.Nat.{le-refl}
 use native.Mathlib.Omega.{arith}
 use native.Mathlib.Decide.{ℕ-discrete}
 use borrow.Author.Tests.{lt-ltb, ne-eqb}
+use Rattle.searches.specs.Searches.{at, only}
+use Rattle.searches.proofs.Testing.{impossible, and-true}
+use Rattle.searches.proofs.Searching.{Best, best-found, largest-reaches, largest-below}
 use Rattle.protocol.specs.Tasks.{Table, priority, setting}
-use Rattle.protocol.specs.Searches.{at, only}
 use Rattle.protocol.specs.State.{Status, none, ready, waiting, asleep, Entry, State, fresh, holds, isNone, isReady}
 use Rattle.protocol.specs.Running.{ceiling, systemPriority, Rule, eligible, running}
-use Rattle.protocol.proofs.Testing.{impossible, and-true, ready-is}
-use Rattle.protocol.proofs.Searching.{Best, best-found, largest-reaches, largest-below}
+use Rattle.protocol.proofs.Testing.{ready-is}
 use Rattle.protocol.proofs.Invariant.{Unfinished, Inv}
 
 -- ---- in the table

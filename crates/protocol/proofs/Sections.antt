@@ -5,12 +5,12 @@ use mathlib.Core.Logic.{⊎-elim}
 use Prim.Native.Nat.{ℕ, zero, suc, _≤_, _<_}
 use native.Mathlib.Omega.{arith}
 use native.Mathlib.Decide.{decLe, ℕ-discrete}
+use Rattle.searches.proofs.Testing.{impossible}
 use Rattle.protocol.specs.Tasks.{Table}
 use Rattle.protocol.specs.State.{Section, State}
 use Rattle.protocol.specs.Running.{Rule}
 use Rattle.protocol.specs.Acting.{section}
 use Rattle.protocol.specs.Trace.{Event, nothing, released, resumed, opened, closed, slept, ended, Open}
-use Rattle.protocol.proofs.Testing.{impossible}
 use Rattle.protocol.proofs.Chain.{In, low, Chain, in-left, in-last, in-snoc, chain-init, chain-within, chain-before}
 use Rattle.protocol.proofs.Effects.{Opening, Effect}
 use Rattle.protocol.proofs.Runs.{Changed, Link, by-call, by-change, Run, inv, next}

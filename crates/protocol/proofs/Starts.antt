@@ -4,15 +4,15 @@ use mathlib.Core.Bool.{Bool, true, false}
 use Prim.Native.Nat.{ℕ, _≤_, _<_, max}
 use native.Mathlib.Omega.{arith}
 use native.Mathlib.Decide.{ℕ-discrete}
+use Rattle.searches.specs.Searches.{Place, nowhere, at}
+use Rattle.searches.proofs.Testing.{impossible}
 use Rattle.protocol.specs.Tasks.{Table, priority, setting}
-use Rattle.protocol.specs.Searches.{Place, nowhere, at}
 use Rattle.protocol.specs.State.{ready, State, holds}
 use Rattle.protocol.specs.Running.{systemPriority, Rule, running}
 use Rattle.protocol.specs.Checks.{Call, release, resume, lock, unlock, suspend, complete, Ruling, refuse, grant, ruling}
 use Rattle.protocol.specs.Acting.{put, begun, section, act, start, settle}
 use Rattle.protocol.specs.Step.{answer, step}
 use Rattle.protocol.specs.Accepted.{Accepted, Lawful}
-use Rattle.protocol.proofs.Testing.{impossible}
 use Rattle.protocol.proofs.Entries.{put-each}
 use Rattle.protocol.proofs.Invariant.{Unfinished, Sound, Started, Inv}
 use Rattle.protocol.proofs.Runner.{setting-below, priority-below, Runs, runs}

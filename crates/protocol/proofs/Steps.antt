@@ -2,8 +2,9 @@
 use mathlib.Core.Path.{_≡_, refl, sym, ap, subst, _∙_}
 use mathlib.Core.Bool.{Bool, true, false}
 use Prim.Native.Nat.{ℕ, _<_}
+use Rattle.searches.specs.Searches.{Place, nowhere, at}
+use Rattle.searches.proofs.Testing.{impossible}
 use Rattle.protocol.specs.Tasks.{Table, priority}
-use Rattle.protocol.specs.Searches.{Place, nowhere, at}
 use Rattle.protocol.specs.State.{ready, waiting, Entry, Section, State}
 use Rattle.protocol.specs.Running.{top, systemCeiling, Rule, running}
 use Rattle.protocol.specs.Checks.{Call, release, resume, lock, unlock, suspend, complete, Ruling, refuse, grant, ruling}
@@ -11,7 +12,6 @@ use Rattle.protocol.specs.Acting.{put, become, begun, own, section, has,
 use Rattle.protocol.specs.Step.{answer, step}
 use Rattle.protocol.specs.Accepted.{Accepted}
 use Rattle.protocol.specs.Trace.{Event, accepted, outcome}
-use Rattle.protocol.proofs.Testing.{impossible}
 use Rattle.protocol.proofs.Entries.{put-each, woken-each}
 use Rattle.protocol.proofs.Runner.{Runs, runs}
 use Rattle.protocol.proofs.Granted.{Caller, Granted, granted}

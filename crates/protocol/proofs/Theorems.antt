@@ -5,8 +5,8 @@ use mathlib.Core.Bool.{true}
 use Prim.Native.Nat.{ℕ, suc, _%_, _<_}
 use native.Mathlib.Omega.{arith}
 use borrow.Author.Tests.{ltb-true, lt-ltb, eq-eqb}
+use Rattle.searches.specs.Searches.{only}
 use Rattle.protocol.specs.Tasks.{Table, priority}
-use Rattle.protocol.specs.Searches.{only}
 use Rattle.protocol.specs.State.{State, serial}
 use Rattle.protocol.specs.Running.{Rule, aboveSystem, running}
 use Rattle.protocol.specs.Fit.{fit}

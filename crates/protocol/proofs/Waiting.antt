@@ -4,11 +4,11 @@ use mathlib.Core.Logic.{_⊎_, ⊎-elim}
 use Prim.Native.Nat.{ℕ, zero, suc, _≤_, _<_}
 use native.Mathlib.Omega.{arith}
 use native.Mathlib.Decide.{decLt, ℕ-discrete}
+use Rattle.searches.proofs.Testing.{impossible}
 use Rattle.protocol.specs.Tasks.{Table, priority}
 use Rattle.protocol.specs.State.{Entry, State}
 use Rattle.protocol.specs.Running.{Rule}
 use Rattle.protocol.specs.Trace.{Event, released, resumed, slept, ended, Open, Waits}
-use Rattle.protocol.proofs.Testing.{impossible}
 use Rattle.protocol.proofs.Invariant.{Unfinished}
 use Rattle.protocol.proofs.Runner.{runs}
 use Rattle.protocol.proofs.Lows.{Awake, awake-live, frees}

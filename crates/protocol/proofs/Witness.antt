@@ -5,11 +5,12 @@ use mathlib.Core.Logic.{_⊎_, inl, inr, ⊎-elim}
 use mathlib.Core.Bool.{Bool, true, false, not}
 use Prim.Native.Nat.{ℕ, zero, suc, _+_, _<_}
 use native.Mathlib.Omega.{arith}
-use native.Mathlib.Decide.{ℕ-discrete}
 use lib.Dec.{eqb}
 use lib.ListN.{length}
+use Rattle.searches.specs.Searches.{at, first, best, all, some, largest}
+use Rattle.searches.proofs.Testing.{impossible}
+use Rattle.searches.proofs.Searching.{all-each}
 use Rattle.protocol.specs.Tasks.{priority}
-use Rattle.protocol.specs.Searches.{at, first, best, all, some, largest}
 use Rattle.protocol.specs.State.{State}
 use Rattle.protocol.specs.Running.{ceiling, top, systemPriority, aboveSystem, running}
 use Rattle.protocol.specs.Fit.{used, named, fit}
@@ -19,7 +20,6 @@ use Rattle.protocol.specs.Step.{step}
 use Rattle.protocol.specs.Accepted.{Accepted}
 use Rattle.protocol.specs.Trace.{Event, released, resumed, opened, after, event, Has}
 use Rattle.protocol.specs.ShortWaits.{Among, Distinct, always, Meets, Met}
-use Rattle.protocol.proofs.Testing.{impossible, and-true}
 use Rattle.protocol.proofs.Cases.{table, callsK}
 
 -- the calls of a list in turn, and after them releases of no task
@@ -70,19 +70,6 @@ endsThree (Event.opened p r) = false
 endsThree (Event.closed p r) = false
 endsThree (Event.slept p) = false
 endsThree (Event.ended p) = eqb p 3
-
--- where all pass a test each does
-all-each : (test : ℕ → Bool) (n : ℕ) → all test n ≡ true → (i : ℕ) → i < n → test i ≡ true
-unfolding all
-all-each test zero h i lt = absurd (omega arith)
-all-each test (suc k) h i lt = go (ℕ-discrete i k) (all-each test k)
-  where
-    b : (all test k ≡ true) × (test k ≡ true)
-    b = and-true (all test k) (test k) h
-
-    go : Dec (i ≡ k) → (all test k ≡ true → (i : ℕ) → i < k → test i ≡ true) → test i ≡ true
-    go (yes e) more = rw e (b .1)
-    go (no ne) more = more (b .0) i (omega arith)
 
 -- what the calls 1, 2, 7 and 8 bring about
 calls-do : (eventK 1 ≡ opened 1 1) × (eventK 2 ≡ released 3) × (eventK 7 ≡ opened 1 1) × (eventK 8 ≡ resumed 3)

@@ -3,8 +3,8 @@ use mathlib.Core.List.{List, [], _∷_, _++_}
 use mathlib.Core.Bool.{Bool, true, false, _&&_, _||_}
 use Prim.Native.Nat.{ℕ, _+_}
 use lib.Dec.{ltb, eqb}
+use Rattle.searches.specs.Searches.{Place, nowhere, at, only}
 use Rattle.protocol.specs.Tasks.{Table, priority}
-use Rattle.protocol.specs.Searches.{Place, nowhere, at, only}
 use Rattle.protocol.specs.State.{Status, none, ready, waiting, asleep, Entry, Section, State, following, isWaiting}
 use Rattle.protocol.specs.Running.{top, systemCeiling, Rule, running}
 use Rattle.protocol.specs.Checks.{Call, release, resume, lock, unlock, suspend, complete}

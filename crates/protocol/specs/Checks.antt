@@ -3,8 +3,8 @@ use mathlib.Core.Bool.{Bool, true, false, not, _&&_}
 use Prim.Native.Nat.{ℕ}
 use lib.Dec.{ltb, eqb}
 use lib.ListN.{length}
+use Rattle.searches.specs.Searches.{Place, nowhere, at, first}
 use Rattle.protocol.specs.Tasks.{Table, priority}
-use Rattle.protocol.specs.Searches.{Place, nowhere, at, first}
 use Rattle.protocol.specs.State.{Entry, State, serial, holds, isNone, isAsleep}
 use Rattle.protocol.specs.Running.{Rule, running}
 use Rattle.protocol.specs.Fit.{fit}

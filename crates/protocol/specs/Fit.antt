@@ -4,8 +4,8 @@ use mathlib.Core.Bool.{Bool, true, _&&_}
 use Prim.Native.Nat.{ℕ}
 use lib.Dec.{ltb, leb}
 use lib.ListN.{length}
+use Rattle.searches.specs.Searches.{all, some}
 use Rattle.protocol.specs.Tasks.{Table, priority, setting}
-use Rattle.protocol.specs.Searches.{all, some}
 use Rattle.protocol.specs.State.{Section, State}
 
 -- whether some task uses a resource

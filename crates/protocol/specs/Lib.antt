@@ -1,5 +1,4 @@
 pub mod Tasks
-pub mod Searches
 pub mod State
 pub mod Running
 pub mod Fit

@@ -4,8 +4,8 @@ use mathlib.Core.Logic.{_⊎_}
 use mathlib.Core.Bool.{Bool, false}
 use Prim.Native.Nat.{ℕ, zero, suc, _+_, _*_, _<_}
 use lib.Dec.{eqb}
+use Rattle.searches.specs.Searches.{at, only}
 use Rattle.protocol.specs.Tasks.{Table}
-use Rattle.protocol.specs.Searches.{at, only}
 use Rattle.protocol.specs.State.{State, asleep}
 use Rattle.protocol.specs.Running.{Rule, running}
 use Rattle.protocol.specs.Checks.{Call, release, resume, lock, unlock, suspend, complete}

@@ -3,8 +3,8 @@ use mathlib.Core.List.{List, [], _∷_}
 use mathlib.Core.Bool.{Bool, not, _&&_}
 use Prim.Native.Nat.{ℕ}
 use lib.Dec.{ltb}
+use Rattle.searches.specs.Searches.{Place, best, largest, only}
 use Rattle.protocol.specs.Tasks.{Table, priority, setting}
-use Rattle.protocol.specs.Searches.{Place, best, largest, only}
 use Rattle.protocol.specs.State.{Entry, Section, State, holds, isNone, isReady}
 
 -- the ceiling of a resource: the highest priority among tasks with a use of it

@@ -5,8 +5,8 @@ use mathlib.Core.Logic.{_⊎_}
 use mathlib.Core.List.{List, [], _∷_}
 use lib.ListN.{length}
 use Prim.Native.Nat.{ℕ, _+_, _≤_, _<_}
+use Rattle.searches.specs.Searches.{at}
 use Rattle.protocol.specs.Tasks.{Table, priority, setting}
-use Rattle.protocol.specs.Searches.{at}
 use Rattle.protocol.specs.State.{State}
 use Rattle.protocol.specs.Running.{systemPriority, Rule, running}
 use Rattle.protocol.specs.Trace.{Event, opened, Open, Waits, Has}

@@ -1,8 +1,8 @@
 -- One call: the answer, and the next state.
 use mathlib.Core.Bool.{Bool, true, false}
 use Prim.Native.Nat.{ℕ}
+use Rattle.searches.specs.Searches.{Place, nowhere, at}
 use Rattle.protocol.specs.Tasks.{Table, priority}
-use Rattle.protocol.specs.Searches.{Place, nowhere, at}
 use Rattle.protocol.specs.State.{Entry, State, serial}
 use Rattle.protocol.specs.Running.{Rule, running}
 use Rattle.protocol.specs.Fit.{fit}

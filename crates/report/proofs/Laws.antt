@@ -6,13 +6,13 @@ use native.Mathlib.Omega.{arith}
 use lib.ListN.{length, take, drop, replicate}
 use lib.Seq.{take-at}
 use borrow.Author.Tests.{lt-ltb, le-ltb}
+use Rattle.searches.specs.Indexed.{every}
+use Rattle.searches.proofs.Indexed.{filled, length-every}
 use Rattle.table.specs.declared.Refusal.{Refusal}
 use Rattle.table.specs.declared.Shape.{Shape}
 use Rattle.table.specs.declared.Reading.{Reading}
 use Rattle.table.specs.declared.Reading.the-variants.{Accepted, Refused}
-use Rattle.table.specs.Indexed.{every}
 use Rattle.table.specs.Reading.{readTable}
-use Rattle.table.proofs.Indexed.{filled, length-every}
 use Rattle.rounds.specs.Allowance.{Allowed, within, beyond, allowed}
 use Rattle.analysis.specs.declared.Analysis.{Analysis}
 use Rattle.analysis.specs.Analysing.{ownSystem, allowedAs, analysedAs, analysed}

@@ -9,14 +9,14 @@ use lib.Dec.{ltb}
 use lib.ListN.{length, getD, drop, List·getD-append}
 use lib.Seq.{getD-append-add, getD-drop}
 use borrow.Author.Tests.{lt-ltb, le-ltb}
+use Rattle.searches.specs.Indexed.{every}
+use Rattle.searches.proofs.Indexed.{length-every, every-at}
 use Rattle.table.specs.declared.Refusal.{Refusal}
 use Rattle.table.specs.declared.Shape.{Shape}
 use Rattle.table.specs.declared.Reading.{Reading}
 use Rattle.table.specs.declared.Reading.the-variants.{Accepted, Refused}
-use Rattle.table.specs.Indexed.{every}
 use Rattle.table.specs.Reading.{readTable}
 use Rattle.table.specs.WellFormed.{taskOf}
-use Rattle.table.proofs.Indexed.{length-every, every-at}
 use Rattle.rounds.specs.Rounds.{answer}
 use Rattle.rounds.specs.Allowance.{Allowed, within, beyond, allowed}
 use Rattle.rounds.specs.AllowanceLaws.{within-allowed, beyond-refused}

@@ -3,7 +3,7 @@ use Prim.Native.Nat.{ℕ, _≤_}
 use mathlib.Core.Path.{_≡_}
 use mathlib.Core.List.{List}
 use lib.ListN.{take}
-use Rattle.table.specs.Indexed.{every}
+use Rattle.searches.specs.Indexed.{every}
 use Rattle.analysis.specs.Analysing.{analysed}
 use Rattle.report.specs.declared.Row.{Row}
 use Rattle.report.specs.declared.finding.Found.{Found}

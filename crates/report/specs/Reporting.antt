@@ -4,11 +4,11 @@ use mathlib.Core.Bool.{false, cond}
 use mathlib.Core.List.{List, _++_}
 use lib.Dec.{ltb}
 use lib.ListN.{length, drop}
+use Rattle.searches.specs.Indexed.{every}
 use Rattle.table.specs.declared.Refusal.{Refusal}
 use Rattle.table.specs.declared.Reading.{Reading}
 use Rattle.table.specs.declared.Reading.the-variants.{Accepted, Refused}
 use Rattle.table.specs.declared.Task.{Task}
-use Rattle.table.specs.Indexed.{every}
 use Rattle.table.specs.Reading.{readTable}
 use Rattle.table.specs.WellFormed.{taskOf}
 use Rattle.analysis.specs.declared.Analysis.{Analysis}

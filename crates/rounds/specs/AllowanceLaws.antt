@@ -5,6 +5,7 @@ use Prim.Native.Nat.{ℕ, _≤_, _<_}
 use native.Mathlib.Decide.{decLe}
 use native.Mathlib.Omega.{arith}
 use borrow.Author.Tests.{le-leb, lt-leb}
+use Rattle.searches.proofs.Testing.{impossible}
 use Rattle.rounds.specs.Allowance.{within, beyond, allowed}
 use Rattle.rounds.specs.Rounds.{Progress, analysis}
 use Rattle.rounds.specs.System.{System}
@@ -28,8 +29,7 @@ module _ (S : System) (allowance : ℕ) where
       go (yes p) = let e : within (analysis S) ≡ within s = sym (within-allowed p) ∙ q in (cc, p)
       go (no p) =
           let e : beyond ≡ within s = sym (beyond-refused (omega arith)) ∙ q in
-          let z : _≡_ {A = ℕ} 0 1 = cc in
-          absurd (omega arith)
+          absurd (impossible cc)
 
   -- Refused exactly when the total is larger than the allowance.
   pub refused-exactly : (allowed S allowance ≡ beyond) ↔ (allowance < analysis S .evaluations)
@@ -39,8 +39,7 @@ module _ (S : System) (allowance : ℕ) where
       go q (no p) = omega arith
       go q (yes p) =
           let e : within (analysis S) ≡ beyond = sym (within-allowed p) ∙ q in
-          let z : _≡_ {A = ℕ} 0 1 = cc in
-          absurd (omega arith)
+          absurd (impossible cc)
 
 -- A larger allowance never alters an answer already given.
 pub allowed-larger : (S : System) (a b : ℕ) (s : Progress) → a ≤ b → allowed S a ≡ within s → allowed S b ≡ within s

@@ -1,7 +1,7 @@
 -- Laws of vectors: their order, their sum, the test of equality, and a value replaced.
 use mathlib.Core.Path.{_≡_, refl, sym, ap, ap₂, _∙_}
 use mathlib.Core.List.{List, [], _∷_}
-use mathlib.Core.Bool.{Bool, true, false, _&&_, true≢false}
+use mathlib.Core.Bool.{Bool, true, false, true≢false}
 use Prim.Native.Nat.{ℕ, zero, suc, _≤_, _<_}
 use native.Mathlib.Nat.{le-refl, le-trans, le-antisymm, suc-inj}
 use native.Mathlib.Omega.{arith}
@@ -9,6 +9,7 @@ use lib.Dec.{eqb}
 use lib.ListN.{length, set}
 use lib.Seq.{ext-getD}
 use borrow.Author.Tests.{eqb-true, eq-eqb}
+use Rattle.searches.proofs.Testing.{and-true}
 use Rattle.rounds.specs.Vector.{at, _⊑_, sum, same}
 
 -- ---- the order
@@ -43,11 +44,6 @@ sum-same (x ∷ xs) (y ∷ ys) l h s =
     ap₂ _∷_ (omega (arith, h zero)) (sum-same xs ys (suc-inj l) (λ j. h (suc j)) (omega (arith, h zero)))
 
 -- ---- the test
-
--- Both halves of a test that holds.
-and-true : (p q : Bool) → p && q ≡ true → (p ≡ true) × (q ≡ true)
-and-true true q e = (refl, e)
-and-true false q e = (e, cc)
 
 -- Vectors that test as the same are equal.
 pub same-true : (v w : List ℕ) → same v w ≡ true → v ≡ w

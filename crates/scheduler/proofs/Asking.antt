@@ -7,7 +7,7 @@ use native.Mathlib.Decide.{decLt}
 use lib.Dec.{ltb, eqb}
 use borrow.Author.Tests.{ltb-true}
 use Rattle.protocol.specs.Tasks.{Table}
-use Rattle.protocol.specs.Searches.{Place, nowhere, at, ifHere, first}
+use Rattle.searches.specs.Searches.{Place, nowhere, at, ifHere, first}
 use Rattle.protocol.specs.State.{Entry, holds, isNone}
 use Rattle.protocol.specs.Running.{aboveSystem, running}
 use Rattle.protocol.specs.Checks.{Call, release, resume, lock, unlock, suspend, complete, Ruling, refuse, grant, demand, found, numbered, checks, releasing, locking, unlocking, suspending, completing}

@@ -8,14 +8,14 @@ use native.Mathlib.Decide.{decLt}
 use lib.Dec.{ltb}
 use lib.ListN.{getD, replicate, length-replicate}
 use borrow.Author.Tests.{lt-ltb}
-use Rattle.protocol.specs.Searches.{only}
+use Rattle.searches.specs.Searches.{only}
 use Rattle.protocol.specs.State.{fresh}
 use Rattle.protocol.specs.Accepted.{Accepted}
 use Rattle.table.specs.declared.Shape.{Shape}
 use Rattle.table.specs.declared.Reading.the-variants as reading
 use Rattle.table.specs.Reading.{readTable}
 use Rattle.table.specs.WellFormed.{taskOf, WellFormed}
-use Rattle.table.proofs.Indexed.{length-every, every-at, same-at}
+use Rattle.searches.proofs.Indexed.{length-every, every-at, same-at}
 use Rattle.arrays.specs.View.{statusOf, countOf, sectionsBy}
 use Rattle.scheduler.specs.View.{Sized, tableOf, entryOf, stateOf}
 use Rattle.scheduler.specs.Fresh.{column, freshOf, setUpBy, setUp}

@@ -9,12 +9,12 @@ use lib.Dec.{ltb}
 use lib.ListN.{getD, set, length-set}
 use lib.Seq.{getD-set-same, getD-set-other}
 use borrow.Author.Tests.{lt-ltb, le-ltb}
-use Rattle.protocol.specs.Searches.{nowhere, at, first, only}
+use Rattle.searches.specs.Searches.{nowhere, at, first, only}
 use Rattle.protocol.specs.State.{ready, Entry, isWaiting}
 use Rattle.protocol.specs.Running.{ceiling, top}
 use Rattle.protocol.specs.Checks.{unlock}
 use Rattle.protocol.specs.Acting.{section, pick, put, become, freed, without, woken, act}
-use Rattle.protocol.proofs.Searching.{first-found}
+use Rattle.searches.proofs.Searching.{first-found}
 use Rattle.arrays.specs.View.{statusOf, entriesBy, sectionsBy, users, lastOpen, isSection, slotOf}
 use Rattle.arrays.specs.Stores.{Removed, Woken}
 use Rattle.arrays.proofs.Numbers.{waiting-number}

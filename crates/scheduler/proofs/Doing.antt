@@ -12,7 +12,7 @@ use borrow.Author.Tests.{eqb-true}
 use Rattle.protocol.specs.State.{Status, none, ready, asleep, following, isReady}
 use Rattle.protocol.specs.Running.{ceiling, systemCeiling, aboveSystem, running}
 use Rattle.protocol.specs.Checks.{release, resume, suspend, complete}
-use Rattle.protocol.specs.Searches.{at}
+use Rattle.searches.specs.Searches.{at}
 use Rattle.protocol.specs.Acting.{become, renewed, slept, admittedBy, admitted}
 use Rattle.protocol.proofs.Runner.{runs}
 use Rattle.arrays.specs.View.{statusOf, ownNumber, users, lastOpen}

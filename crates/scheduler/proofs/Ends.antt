@@ -8,7 +8,7 @@ use lib.ListN.{length, length-set}
 use lib.Seq.{getD-set-same, getD-set-other}
 use borrow.Author.Tests.{eq-eqb, not-true}
 use Rattle.protocol.specs.Tasks.{Table}
-use Rattle.protocol.specs.Searches.{Place, nowhere, at}
+use Rattle.searches.specs.Searches.{Place, nowhere, at}
 use Rattle.protocol.specs.State.{State}
 use Rattle.protocol.specs.Running.{aboveSystem, running}
 use Rattle.protocol.specs.Fit.{fit}

@@ -7,7 +7,7 @@ use lib.Dec.{ltb, eqb}
 use lib.ListN.{length}
 use borrow.Author.Tests.{ne-eqb}
 use Rattle.protocol.specs.Tasks.{Table, priority}
-use Rattle.protocol.specs.Searches.{Place, nowhere, at, first}
+use Rattle.searches.specs.Searches.{Place, nowhere, at, first}
 use Rattle.protocol.specs.State.{Entry, State, isAsleep}
 use Rattle.protocol.specs.Running.{Rule, running}
 use Rattle.protocol.specs.Fit.{fit}

@@ -9,15 +9,15 @@ use lib.Dec.{ltb}
 use lib.ListN.{length, getD, List·getD-eq-default}
 use lib.Seq.{ext-getD}
 use borrow.Author.Tests.{lt-ltb, le-ltb}
-use Rattle.protocol.specs.Searches.{only}
+use Rattle.searches.specs.Searches.{only}
 use Rattle.protocol.specs.State.{Status, none, ready, waiting, asleep, Section, State}
 use Rattle.protocol.specs.Running.{aboveSystem}
 use Rattle.protocol.specs.Fit.{fit}
 use Rattle.protocol.specs.Checks.{Call}
 use Rattle.protocol.specs.Acting.{section}
 use Rattle.protocol.specs.Step.{step}
-use Rattle.table.specs.Indexed.{every}
-use Rattle.table.proofs.Indexed.{length-every, every-at}
+use Rattle.searches.specs.Indexed.{every}
+use Rattle.searches.proofs.Indexed.{length-every, every-at}
 use Rattle.arrays.specs.View.{statusOf, ownNumber, countOf}
 use Rattle.arrays.proofs.Opened.{sections-length}
 use Rattle.scheduler.specs.declared.Scheduler.{Scheduler}

@@ -9,17 +9,17 @@ use lib.Dec.{ltb, eqb}
 use lib.ListN.{getD, set, length-set, replicate, length-replicate, getD-replicate}
 use lib.Seq.{getD-set-same, getD-set-other}
 use borrow.Author.Tests.{eq-eqb, eqb-true, lt-ltb, le-ltb}
-use Rattle.protocol.specs.Searches.{only}
-use Rattle.protocol.proofs.Testing.{and-true, true-and}
+use Rattle.searches.specs.Searches.{only}
+use Rattle.searches.proofs.Testing.{and-true, true-and}
 use Rattle.table.specs.declared.Shape.{Shape}
 use Rattle.table.specs.declared.Use.{Use}
 use Rattle.table.specs.declared.Refusal.{Refusal}
 use Rattle.table.specs.declared.Reading.the-variants.{Accepted, Refused}
 use Rattle.table.specs.Reading.{readTable}
 use Rattle.table.specs.Rules.{placeFrom}
-use Rattle.table.specs.Indexed.{every}
+use Rattle.searches.specs.Indexed.{every}
 use Rattle.table.specs.WellFormed.{taskOf, useOf, userOf, WellFormed}
-use Rattle.table.proofs.Indexed.{length-every, every-at}
+use Rattle.searches.proofs.Indexed.{length-every, every-at}
 use Rattle.table.proofs.Laws.{place-has}
 use Rattle.scheduler.specs.declared.Scheduler.{Scheduler}
 use Rattle.scheduler.specs.Fresh.{column, names, timesOf, timesBy, freshOf, empty, setUpBy, setUp}

@@ -8,7 +8,7 @@ use lib.Dec.{eqb}
 use lib.ListN.{length, length-append}
 use borrow.Author.Tests.{ne-eqb, le-ltb}
 use Rattle.protocol.specs.Tasks.{Table}
-use Rattle.protocol.specs.Searches.{Place, nowhere, at}
+use Rattle.searches.specs.Searches.{Place, nowhere, at}
 use Rattle.protocol.specs.State.{Entry, Section, State}
 use Rattle.protocol.specs.Running.{systemCeiling, Rule, running}
 use Rattle.protocol.specs.Checks.{Call, release, resume, lock, unlock, suspend, complete, Ruling, refuse, grant, ruling}

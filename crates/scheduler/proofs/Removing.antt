@@ -8,11 +8,11 @@ use native.Mathlib.Decide.{ℕ-discrete, decLt}
 use lib.Dec.{leb}
 use lib.ListN.{getD}
 use borrow.Author.Tests.{le-leb, lt-leb}
-use Rattle.protocol.specs.Searches.{Place, nowhere, at, orElse, ifHere, first, only}
+use Rattle.searches.specs.Searches.{Place, nowhere, at, orElse, ifHere, first, only}
 use Rattle.protocol.specs.State.{Section}
 use Rattle.protocol.specs.Acting.{section, same, has, skip, without}
-use Rattle.protocol.proofs.Testing.{impossible}
-use Rattle.protocol.proofs.Searching.{first-found}
+use Rattle.searches.proofs.Testing.{impossible}
+use Rattle.searches.proofs.Searching.{first-found}
 use Rattle.arrays.specs.View.{sectionsBy, isSection}
 use Rattle.arrays.specs.Stores.{Removed}
 

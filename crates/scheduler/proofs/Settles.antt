@@ -8,12 +8,12 @@ use native.Mathlib.Decide.{ℕ-discrete}
 use lib.Dec.{ltb}
 use borrow.Author.Tests.{lt-ltb, le-ltb, ltb-true}
 use Rattle.protocol.specs.Tasks.{Table, priority, setting}
-use Rattle.protocol.specs.Searches.{Place, nowhere, at, orElse, ifHere, best, beats, largest, only}
+use Rattle.searches.specs.Searches.{Place, nowhere, at, orElse, ifHere, best, beats, largest, only}
 use Rattle.protocol.specs.State.{Entry, State, isNone, isReady}
 use Rattle.protocol.specs.Running.{systemPriority, aboveSystem, eligible, running}
 use Rattle.protocol.specs.Acting.{put, begun, start}
-use Rattle.protocol.proofs.Testing.{impossible, and-true, true-and}
-use Rattle.protocol.proofs.Searching.{Best, best-found, largest-reaches, largest-below}
+use Rattle.searches.proofs.Testing.{impossible, and-true, true-and}
+use Rattle.searches.proofs.Searching.{Best, best-found, largest-reaches, largest-below}
 use Rattle.protocol.proofs.Entries.{put-each}
 
 -- ---- the best, by what makes it so

@@ -9,11 +9,11 @@ use lib.Dec.{ltb, leb}
 use lib.ListN.{length}
 use borrow.Author.Tests.{ltb-true, leb-true, lt-ltb, le-ltb, not-false}
 use Rattle.protocol.specs.Tasks.{priority, setting}
-use Rattle.protocol.specs.Searches.{Place, nowhere, at, all}
+use Rattle.searches.specs.Searches.{Place, nowhere, at, all}
 use Rattle.protocol.specs.Running.{ceiling, systemPriority, systemCeiling, aboveSystem, running}
 use Rattle.protocol.specs.Fit.{named, fit}
 use Rattle.protocol.specs.Step.{numberAt}
-use Rattle.protocol.proofs.Testing.{and-true}
+use Rattle.searches.proofs.Testing.{and-true}
 use Rattle.arrays.specs.View.{tasksBy, entriesBy, sectionsBy, opening, lastOpen, ranked, users, jobs, placeOf}
 use Rattle.arrays.proofs.Opened.{sections-length, fit-tested, last-ceiling}
 use Rattle.scheduler.specs.declared.Scheduler.{Scheduler}

@@ -11,11 +11,11 @@ use lib.Dec.{leb}
 use lib.ListN.{length, getD, List·getD-append}
 use lib.Seq.{ext-getD, getD-at}
 use borrow.Author.Tests.{lt-ltb, le-ltb, le-leb}
-use Rattle.protocol.specs.Searches.{only}
+use Rattle.searches.specs.Searches.{only}
 use Rattle.protocol.specs.State.{Status, none, ready, waiting, asleep, Section}
 use Rattle.protocol.specs.Acting.{section}
-use Rattle.table.specs.Indexed.{every}
-use Rattle.table.proofs.Indexed.{length-every, every-at}
+use Rattle.searches.specs.Indexed.{every}
+use Rattle.searches.proofs.Indexed.{length-every, every-at}
 use Rattle.arrays.specs.View.{statusOf, countOf, sectionsBy}
 use Rattle.arrays.proofs.Opened.{sections-length}
 use Rattle.scheduler.specs.declared.Scheduler.{Scheduler}

@@ -4,13 +4,13 @@ use mathlib.Core.Bool.{Bool, cond}
 use Prim.Native.Nat.{ℕ, _+_, _/_, _%_}
 use lib.Dec.{ltb, leb}
 use lib.ListN.{length, getD}
-use Rattle.protocol.specs.Searches.{only}
+use Rattle.searches.specs.Searches.{only}
 use Rattle.protocol.specs.State.{Status, none, ready, waiting, asleep, Section, State, isNone, isReady, isWaiting, isAsleep}
 use Rattle.protocol.specs.Running.{aboveSystem, running}
 use Rattle.protocol.specs.Checks.{Call}
 use Rattle.protocol.specs.Acting.{section}
 use Rattle.protocol.specs.Step as machine
-use Rattle.table.specs.Indexed.{every}
+use Rattle.searches.specs.Indexed.{every}
 use Rattle.arrays.specs.View.{statusOf, ownNumber}
 use Rattle.arrays.specs.Stores.{startedAt}
 use Rattle.scheduler.specs.declared.Scheduler.{Scheduler}

@@ -9,15 +9,15 @@ use native.Mathlib.Omega.{arith}
 use native.Mathlib.Decide.{ℕ-discrete}
 use borrow.Author.Count.{below-more}
 use borrow.Author.Tests.{eq-eqb, ne-eqb}
+use Rattle.searches.specs.Indexed.{sumTo}
+use Rattle.searches.proofs.Sums.{sumTo-none, sumTo-more}
 use Rattle.table.specs.declared.Shape.{Shape}
 use Rattle.table.specs.declared.walk.Walk.{Walk}
 use Rattle.table.specs.declared.Reading.the-variants.{Accepted}
 use Rattle.table.specs.Fields.{taskAt, useAt, wordAt}
 use Rattle.table.specs.Rules.{taskRule, useRule, placeFrom, sumAfter, withTask, withUse}
 use Rattle.table.specs.Reading.{startWalk, userAt, readTable}
-use Rattle.table.specs.Indexed.{sumTo}
 use Rattle.table.specs.WellFormed.{taskOf, useOf, userOf, sectionsBy, TaskInRange, UseInRange, WellFormed}
-use Rattle.table.proofs.Indexed.{no-sum, sum-more}
 use Rattle.table.proofs.Laws.{place-within, place-has, place-first}
 use Rattle.table.proofs.Told.{task-stands, UseStands, use-stands}
 use Rattle.table.proofs.Walked.{accepted}
@@ -43,9 +43,9 @@ pub record Seen (s : List ℕ) (w : Walk) : Type 0 where
   pub in-order : (k : ℕ) → k < w .uses → (j : ℕ) → j < k → userOf s (w .tasks) (20 * w .tasks) j ≤ userOf s (w .tasks) (20 * w .tasks) k
   pub rising : (k : ℕ) → k < w .uses → (j : ℕ) → j < k → userOf s (w .tasks) (20 * w .tasks) j ≡ userOf s (w .tasks) (20 * w .tasks) k
       → useOf s (20 * w .tasks) j .resource < useOf s (20 * w .tasks) k .resource
-  pub sum : sumTo (w .uses) (sectionsBy s (w .tasks) (20 * w .tasks) (w .user)) ≡ w .sum
-  pub unused : (i : ℕ) → w .user < i → sumTo (w .uses) (sectionsBy s (w .tasks) (20 * w .tasks) i) ≡ 0
-  pub sections : (i : ℕ) → i < w .tasks → sumTo (w .uses) (sectionsBy s (w .tasks) (20 * w .tasks) i) ≤ taskOf s i .run
+  pub sum : sumTo (sectionsBy s (w .tasks) (20 * w .tasks) (w .user)) (w .uses) ≡ w .sum
+  pub unused : (i : ℕ) → w .user < i → sumTo (sectionsBy s (w .tasks) (20 * w .tasks) i) (w .uses) ≡ 0
+  pub sections : (i : ℕ) → i < w .tasks → sumTo (sectionsBy s (w .tasks) (20 * w .tasks) i) (w .uses) ≤ taskOf s i .run
 
 pub seen-start : (s : List ℕ) → Seen s startWalk
 unfolding sumTo
@@ -82,7 +82,7 @@ seen-task s w g k room e =
     let here : w .at ≡ 20 * w .tasks = omega (arith, g .place) in
     let same : t .priority ≡ taskOf s (w .tasks) .priority = ap (λ (x : ℕ). taskAt s x .priority) here in
     let less = st .below in
-    let empty : w .sum ≡ 0 = sym (g .sum) ∙ no-sum (w .uses) _ none in
+    let empty : w .sum ≡ 0 = sym (g .sum) ∙ sumTo-none _ (w .uses) none in
     record {
       place = omega (arith, g .place);
       tasks-most = omega (arith, st .few);
@@ -102,9 +102,9 @@ seen-task s w g k room e =
       below = λ j h. absurd (omega arith);
       in-order = λ j h. absurd (omega arith);
       rising = λ j h. absurd (omega arith);
-      sum = no-sum (w .uses) _ none ∙ sym empty;
-      unused = λ i h. no-sum (w .uses) _ none;
-      sections = λ i h. let z = no-sum (w .uses) (sectionsBy s (w .tasks + 1) (20 * (w .tasks + 1)) i) none in omega arith;
+      sum = sumTo-none _ (w .uses) none ∙ sym empty;
+      unused = λ i h. sumTo-none _ (w .uses) none;
+      sections = λ i h. let z = sumTo-none (sectionsBy s (w .tasks + 1) (20 * (w .tasks + 1)) i) (w .uses) none in omega arith;
     }
 
 -- ---- a use
@@ -120,33 +120,33 @@ user-is s w g lt =
 
 -- what the use at the walk's place adds to each task's sections
 section-more : (s : List ℕ) (w : Walk) → Seen s w → userAt s w < w .tasks → (m : ℕ)
-    → sumTo (w .uses + 1) (sectionsBy s (w .tasks) (20 * w .tasks) m)
-    ≡ sumTo (w .uses) (sectionsBy s (w .tasks) (20 * w .tasks) m) + cond (eqb (userAt s w) m) (useAt s (w .at) .times * useAt s (w .at) .length) 0
+    → sumTo (sectionsBy s (w .tasks) (20 * w .tasks) m) (w .uses + 1)
+    ≡ sumTo (sectionsBy s (w .tasks) (20 * w .tasks) m) (w .uses) + cond (eqb (userAt s w) m) (useAt s (w .at) .times * useAt s (w .at) .length) 0
 section-more s w g lt m =
-    sum-more (w .uses) (sectionsBy s (w .tasks) (20 * w .tasks) m)
-    ∙ ap (λ (x : ℕ). sumTo (w .uses) (sectionsBy s (w .tasks) (20 * w .tasks) m) + x)
+    sumTo-more (sectionsBy s (w .tasks) (20 * w .tasks) m) (w .uses)
+    ∙ ap (λ (x : ℕ). sumTo (sectionsBy s (w .tasks) (20 * w .tasks) m) (w .uses) + x)
     (ap (λ (i : ℕ). cond (eqb i m) (useOf s (20 * w .tasks) (w .uses) .times * useOf s (20 * w .tasks) (w .uses) .length) 0) (user-is s w g lt)
     ∙ ap (λ (a : ℕ). cond (eqb (userAt s w) m) (useAt s a .times * useAt s a .length) 0) (sym (g .place)))
 
 module _ (s : List ℕ) (w : Walk) (g : Seen s w) (lt : userAt s w < w .tasks) (on : w .user ≤ userAt s w) where
   -- with the use, the sections of its task
-  pub sum-own : sumTo (w .uses + 1) (sectionsBy s (w .tasks) (20 * w .tasks) (userAt s w)) ≡ sumAfter w (useAt s (w .at)) (userAt s w)
+  pub sum-own : sumTo (sectionsBy s (w .tasks) (20 * w .tasks) (userAt s w)) (w .uses + 1) ≡ sumAfter w (useAt s (w .at)) (userAt s w)
   unfolding sumAfter
   sum-own = section-more s w g lt (userAt s w) ∙ go (ℕ-discrete (userAt s w) (w .user))
     where
       go : Dec (userAt s w ≡ w .user)
-          → sumTo (w .uses) (sectionsBy s (w .tasks) (20 * w .tasks) (userAt s w)) + cond (eqb (userAt s w) (userAt s w)) (useAt s (w .at) .times * useAt s (w .at) .length) 0
+          → sumTo (sectionsBy s (w .tasks) (20 * w .tasks) (userAt s w)) (w .uses) + cond (eqb (userAt s w) (userAt s w)) (useAt s (w .at) .times * useAt s (w .at) .length) 0
           ≡ cond (eqb (userAt s w) (w .user)) (w .sum + useAt s (w .at) .times * useAt s (w .at) .length) (useAt s (w .at) .times * useAt s (w .at) .length)
       go (yes e) =
           rw (eq-eqb (userAt s w) (userAt s w) refl, eq-eqb (userAt s w) (w .user) e)
-          (ap (λ (i : ℕ). sumTo (w .uses) (sectionsBy s (w .tasks) (20 * w .tasks) i) + useAt s (w .at) .times * useAt s (w .at) .length) e
+          (ap (λ (i : ℕ). sumTo (sectionsBy s (w .tasks) (20 * w .tasks) i) (w .uses) + useAt s (w .at) .times * useAt s (w .at) .length) e
           ∙ ap (λ (x : ℕ). x + useAt s (w .at) .times * useAt s (w .at) .length) (g .sum))
       go (no n) =
           rw (eq-eqb (userAt s w) (userAt s w) refl, ne-eqb (userAt s w) (w .user) n)
           (let z = g .unused (userAt s w) (omega arith) in omega arith)
 
   -- and those of another, which it leaves as they are
-  sum-other : (m : ℕ) → (userAt s w ≡ m → ⊥) → sumTo (w .uses + 1) (sectionsBy s (w .tasks) (20 * w .tasks) m) ≡ sumTo (w .uses) (sectionsBy s (w .tasks) (20 * w .tasks) m)
+  sum-other : (m : ℕ) → (userAt s w ≡ m → ⊥) → sumTo (sectionsBy s (w .tasks) (20 * w .tasks) m) (w .uses + 1) ≡ sumTo (sectionsBy s (w .tasks) (20 * w .tasks) m) (w .uses)
   sum-other m n =
       let e = ap (λ (b : Bool). cond b (useAt s (w .at) .times * useAt s (w .at) .length) 0) (ne-eqb (userAt s w) m n) in
       let f = section-more s w g lt m in
@@ -201,9 +201,9 @@ seen-use s w g k room e =
 
     sections : (m : ℕ) → m < w .tasks → Dec (userAt s w ≡ m) → userAt s w < w .tasks → w .user ≤ userAt s w
         → sumAfter w (useAt s (w .at)) (userAt s w) ≤ wordAt s (20 * userAt s w + 4)
-        → sumTo (w .uses + 1) (sectionsBy s (w .tasks) (20 * w .tasks) m) ≤ taskOf s m .run
+        → sumTo (sectionsBy s (w .tasks) (20 * w .tasks) m) (w .uses + 1) ≤ taskOf s m .run
     sections m h (yes q) lt on most =
-        subst (λ (x : ℕ). sumTo (w .uses + 1) (sectionsBy s (w .tasks) (20 * w .tasks) x) ≤ wordAt s (20 * x + 4)) q (omega (arith, sum-own s w g lt on))
+        subst (λ (x : ℕ). sumTo (sectionsBy s (w .tasks) (20 * w .tasks) x) (w .uses + 1) ≤ wordAt s (20 * x + 4)) q (omega (arith, sum-own s w g lt on))
     sections m h (no q) lt on most = omega (arith, sum-other s w g lt on m q, g .sections m h)
 
 -- ---- the table

@@ -8,6 +8,7 @@ use lib.ListN.{getD, length}
 use native.Mathlib.Omega.{arith}
 use native.Mathlib.Decide.{ℕ-discrete, decLt}
 use borrow.Author.Tests.{le-leb, lt-leb, lt-ltb, le-ltb, eq-eqb, ne-eqb}
+use Rattle.searches.proofs.Sums.{sumTo-grows}
 use Rattle.table.specs.declared.Shape.{Shape}
 use Rattle.table.specs.declared.Task.{Task}
 use Rattle.table.specs.declared.Use.{Use}
@@ -20,7 +21,6 @@ use Rattle.table.specs.Ranges.{taskFits, useFits}
 use Rattle.table.specs.Rules.{taskRule, useRule, sumAfter, withTask, withUse}
 use Rattle.table.specs.Reading.{startWalk, taskStep, useStep, endStep, stepAt, userAt, onward, readFrom, readTable}
 use Rattle.table.specs.WellFormed.{taskOf, useOf, userOf, sectionsBy, TaskInRange, UseInRange, WellFormed}
-use Rattle.table.proofs.Indexed.{sum-grows}
 use Rattle.table.proofs.Laws.{place-has, place-first}
 use Rattle.table.proofs.Told.{TaskStands, UseStands}
 use Rattle.table.proofs.Accepted.{Seen, seen-start, seen-task, seen-use, sum-own}
@@ -191,7 +191,7 @@ module _ (s : List ℕ) (w : Walk) (m : ℕ) (f : WellFormed s (past-tasks w m))
         owned = lt;
         rises = λ e. omega (arith, resource-same, g .rises (w .uses) (omega arith) l (sym user-same ∙ e));
         range = subst (λ a. UseInRange (useAt s a)) (sym (g .seen .place)) (f .use-range (w .uses) l);
-        sum = omega (arith, sum-own s w (g .seen) lt on, sum-grows m (w .uses + 1) (sectionsBy s (w .tasks) (20 * w .tasks) i) (omega arith), f .sections i lt);
+        sum = omega (arith, sum-own s w (g .seen) lt on, sumTo-grows (sectionsBy s (w .tasks) (20 * w .tasks) i) (w .uses + 1) m (omega arith), f .sections i lt);
       }
 
   -- over the next use

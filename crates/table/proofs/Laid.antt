@@ -9,6 +9,7 @@ use lib.ListN.{getD, length}
 use native.Mathlib.Omega.{arith}
 use native.Mathlib.Decide.{ℕ-discrete, decLt}
 use borrow.Author.Tests.{le-leb, lt-leb, le-ltb, eq-eqb, leb-true, leb-false, eqb-true, eqb-false}
+use Rattle.searches.proofs.Testing.{impossible}
 use Rattle.table.specs.declared.Shape.{Shape}
 use Rattle.table.specs.declared.Refusal.{Refusal}
 use Rattle.table.specs.declared.Task.{Task}
@@ -23,7 +24,6 @@ use Rattle.table.specs.Ranges.{taskFits, useFits}
 use Rattle.table.specs.Rules.{taskRule, useRule, sumAfter, withTask, withUse}
 use Rattle.table.specs.Reading.{startWalk, refusal, ruled, taskStep, useStep, endStep, stepAt, userAt, onward, readFrom, readTable}
 use Rattle.table.proofs.Laws.{place-within, place-has}
-use Rattle.table.proofs.Walked.{never}
 use Rattle.table.proofs.Accepted.{Seen, seen-start, seen-task, seen-use, well-formed}
 use Rattle.table.proofs.Complete.{end-step}
 
@@ -251,11 +251,11 @@ reads s n m f = ⊎-elim inl (λ d. inr (less-said (λ r x. x .fault) d)) (read-
 
 -- accepted: with exactly these counts
 pub counts : (s : List ℕ) (n m : ℕ) (h : Shape) → Laid s n m → readTable s ≡ Accepted h → h ≡ record { tasks = n; «uses_at» = 20 * n; uses = m }
-counts s n m h f e = ⊎-elim (λ a. cc) (λ d. let z = d .same in never (cc)) (read-whole s n m f)
+counts s n m h f e = ⊎-elim (λ a. cc) (λ d. let z = d .same in absurd (impossible cc)) (read-whole s n m f)
 
 -- refused: with 3 to 6
 pub numbers : (s : List ℕ) (n m : ℕ) (r : Refusal) → Laid s n m → readTable s ≡ Refused r → (3 ≤ r .number) × (r .number ≤ 6)
-numbers s n m r f e = let d = found s n m f (λ a. never (cc)) in within (subst (Fault n m) (let z = d .same in cc) (d .holds .fault))
+numbers s n m r f e = let d = found s n m f (λ a. absurd (impossible cc)) in within (subst (Fault n m) (let z = d .same in cc) (d .holds .fault))
   where
     -- whatever the fault is
     within : Fault n m r → (3 ≤ r .number) × (r .number ≤ 6)

@@ -1,4 +1,3 @@
-pub mod Indexed
 pub mod Laws
 mod Told
 mod Walked

@@ -1,11 +1,12 @@
 -- What a rule that says 0 has tested, as facts about the record.
 use Prim.Native.Nat.{ℕ, _≤_, _<_}
-use mathlib.Core.Path.{_≡_, refl, sym}
+use mathlib.Core.Path.{_≡_, refl}
 use mathlib.Core.Logic.{_⊎_, inl, inr, ⊎-elim}
 use mathlib.Core.Bool.{Bool, true, false, cond, _&&_, _||_}
 use lib.Dec.{ltb, leb, eqb}
 use native.Mathlib.Omega.{arith}
 use borrow.Author.Tests.{ltb-true, ltb-false, leb-true, leb-false, eqb-false}
+use Rattle.searches.proofs.Testing.{impossible, and-true}
 use Rattle.table.specs.declared.Task.{Task}
 use Rattle.table.specs.declared.Use.{Use}
 use Rattle.table.specs.declared.walk.Walk.{Walk}
@@ -13,21 +14,17 @@ use Rattle.table.specs.Ranges.{taskFits, useFits}
 use Rattle.table.specs.Rules.{taskRule, sumAfter, useRule}
 use Rattle.table.specs.WellFormed.{TaskInRange, UseInRange}
 
-no-way : {G : Type 0} → true ≡ false → G
-no-way e = absurd (let y : _≡_ {A = ℕ} 0 1 = cc in omega arith)
-
-both : (p q : Bool) → p && q ≡ true → (p ≡ true) × (q ≡ true)
-both true q e = (refl, e)
-both false q e = no-way (sym e)
-
+-- neither test passed
 neither : (p q : Bool) → p || q ≡ false → (p ≡ false) × (q ≡ false)
-neither true q e = no-way e
+neither true q e = absurd (impossible cc)
 neither false q e = (refl, e)
 
+-- one of them passed
 either : (p q : Bool) → p || q ≡ true → (p ≡ true) ⊎ (q ≡ true)
 either true q e = inl refl
 either false q e = inr e
 
+-- one of them failed
 not-both : (p q : Bool) → p && q ≡ false → (p ≡ false) ⊎ (q ≡ false)
 not-both true q e = inr e
 not-both false q e = inl refl
@@ -48,14 +45,14 @@ use-told false true false e = (refl, refl, refl)
 
 pub task-in-range : (t : Task) → taskFits t ≡ true → TaskInRange t
 task-in-range t e =
-    let a = both _ (leb (t .period) 1000000) e in
-    let b = both _ (leb (t .deadline) (t .period)) (a .0) in
-    let c = both _ (leb (t .run) (t .deadline)) (b .0) in
-    let d = both _ (leb 1 (t .sleeps) || leb (t .sleep) 0) (c .0) in
-    let f = both _ (leb (t .sleep) 1000000) (d .0) in
-    let g = both _ (leb 1 (t .run)) (f .0) in
-    let h = both (leb 1 (t .priority) && ltb (t .setting) (t .priority)) (leb (t .sleeps) 64) (g .0) in
-    let i = both (leb 1 (t .priority)) (ltb (t .setting) (t .priority)) (h .0) in
+    let a = and-true _ (leb (t .period) 1000000) e in
+    let b = and-true _ (leb (t .deadline) (t .period)) (a .0) in
+    let c = and-true _ (leb (t .run) (t .deadline)) (b .0) in
+    let d = and-true _ (leb 1 (t .sleeps) || leb (t .sleep) 0) (c .0) in
+    let f = and-true _ (leb (t .sleep) 1000000) (d .0) in
+    let g = and-true _ (leb 1 (t .run)) (f .0) in
+    let h = and-true (leb 1 (t .priority) && ltb (t .setting) (t .priority)) (leb (t .sleeps) 64) (g .0) in
+    let i = and-true (leb 1 (t .priority)) (ltb (t .setting) (t .priority)) (h .0) in
     record {
       priority = leb-true 1 (t .priority) (i .0);
       setting = ltb-true (t .setting) (t .priority) (i .1);
@@ -71,10 +68,10 @@ task-in-range t e =
 
 pub use-in-range : (u : Use) → useFits u ≡ true → UseInRange u
 use-in-range u e =
-    let a = both _ (leb (u .length) 1000000) e in
-    let b = both _ (leb 1 (u .length)) (a .0) in
-    let c = both _ (leb 1 (u .times)) (b .0) in
-    let d = both (leb 1 (u .resource)) (leb (u .resource) 16) (c .0) in
+    let a = and-true _ (leb (u .length) 1000000) e in
+    let b = and-true _ (leb 1 (u .length)) (a .0) in
+    let c = and-true _ (leb 1 (u .times)) (b .0) in
+    let d = and-true (leb 1 (u .resource)) (leb (u .resource) 16) (c .0) in
     record {
       resource = leb-true 1 (u .resource) (d .0);
       resource-most = leb-true (u .resource) 16 (d .1);

@@ -8,6 +8,7 @@ use lib.Dec.{ltb, leb, eqb}
 use lib.ListN.{getD, length}
 use native.Mathlib.Omega.{arith}
 use borrow.Author.Tests.{ltb-false, leb-false, eqb-true, eqb-false}
+use Rattle.searches.proofs.Testing.{impossible}
 use Rattle.table.specs.declared.Shape.{Shape}
 use Rattle.table.specs.declared.Reading.{Reading}
 use Rattle.table.specs.declared.Reading.the-variants.{Accepted}
@@ -20,13 +21,10 @@ use Rattle.table.specs.Reading.{startWalk, refusal, ruled, taskStep, use
 
 -- ---- which way a test went
 
-pub never : {G : Type 0} → _≡_ {A = ℕ} 0 1 → G
-never e = absurd (omega arith)
-
 -- a step that goes on
 module _ (n : Walk) where
   past : (b : Bool) (a : Reading) (x : Turn) → cond b (Last a) x ≡ Next n → (b ≡ false) × (x ≡ Next n)
-  past true a x e = never (cc)
+  past true a x e = absurd (impossible cc)
   past false a x e = (refl, e)
 
   passed : (k p : ℕ) (w : Walk) → ruled k p w ≡ Next n → (k ≡ 0) × (w ≡ n)
@@ -34,31 +32,31 @@ module _ (n : Walk) where
     where
       go : (b : Bool) → eqb k 0 ≡ b → cond b (Next w) (refusal k p) ≡ Next n → (k ≡ 0) × (w ≡ n)
       go true q e = (eqb-true k 0 q, cc)
-      go false q e = never (cc)
+      go false q e = absurd (impossible cc)
 
   kinds : (b₁ b₂ b₃ : Bool) (t u e : Turn) (a : Reading) → cond b₁ t (cond b₂ u (cond b₃ e (Last a))) ≡ Next n
       → ((b₁ ≡ true) × (t ≡ Next n)) ⊎ (((b₂ ≡ true) × (u ≡ Next n)) ⊎ (e ≡ Next n))
   kinds true b₂ b₃ t u e a q = inl (refl, q)
   kinds false true b₃ t u e a q = inr (inl (refl, q))
   kinds false false true t u e a q = inr (inr q)
-  kinds false false false t u e a q = never (cc)
+  kinds false false false t u e a q = absurd (impossible cc)
 
 -- a step that ends in a table
 module _ (h : Shape) where
   past-end : (b : Bool) (k p : ℕ) (x : Turn) → cond b (refusal k p) x ≡ Last (Accepted h) → (b ≡ false) × (x ≡ Last (Accepted h))
-  past-end true k p x e = never (cc)
+  past-end true k p x e = absurd (impossible cc)
   past-end false k p x e = (refl, e)
 
   never-ruled : {G : Type 0} (b : Bool) (k p : ℕ) (w : Walk) → cond b (Next w) (refusal k p) ≡ Last (Accepted h) → G
-  never-ruled true k p w e = never (cc)
-  never-ruled false k p w e = never (cc)
+  never-ruled true k p w e = absurd (impossible cc)
+  never-ruled false k p w e = absurd (impossible cc)
 
   ends : (b₁ b₂ b₃ : Bool) (x y z : Turn) (p : ℕ) → cond b₁ x (cond b₂ y (cond b₃ z (refusal 2 p))) ≡ Last (Accepted h)
       → (x ≡ Last (Accepted h)) ⊎ ((y ≡ Last (Accepted h)) ⊎ ((b₃ ≡ true) × (z ≡ Last (Accepted h))))
   ends true b₂ b₃ x y z p q = inl q
   ends false true b₃ x y z p q = inr (inl q)
   ends false false true x y z p q = inr (inr (refl, q))
-  ends false false false x y z p q = never (cc)
+  ends false false false x y z p q = absurd (impossible cc)
 
 -- ---- the induction
 
@@ -94,7 +92,7 @@ module _ (s : List ℕ) (P : Walk → Type 0)
 
     never-end : {G : Type 0} (n : Walk) → endStep s w ≡ Next n → G
     unfolding endStep
-    never-end n e = let z = past n (ltb 1 (length s - w .at)) _ _ (past n (eqb (w .tasks) 0) _ _ e .1) .1 in never (cc)
+    never-end n e = let z = past n (ltb 1 (length s - w .at)) _ _ (past n (eqb (w .tasks) 0) _ _ e .1) .1 in absurd (impossible cc)
 
     step-kept : (n : Walk) → stepAt s w ≡ Next n → P n
     unfolding stepAt
@@ -136,7 +134,7 @@ module _ (s : List ℕ) (P : Walk → Type 0)
 
   walked : (k : ℕ) (w : Walk) → P w → (h : Shape) → readFrom k s w ≡ Accepted h → Ended s P h
   unfolding readFrom
-  walked zero w p h e = never (cc)
+  walked zero w p h e = absurd (impossible cc)
   walked (suc k) w p h e = go (λ n q. walked k n q h) (stepAt s w) refl e
     where
       go : ((n : Walk) → P n → readFrom k s n ≡ Accepted h → Ended s P h) → (r : Turn) → stepAt s w ≡ r → onward r (readFrom k s) ≡ Accepted h → Ended s P h

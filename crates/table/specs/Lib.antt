@@ -4,6 +4,5 @@ pub mod Rules
 pub mod Reading
 pub mod Replies
 pub mod Records
-pub mod Indexed
 pub mod WellFormed
 pub mod Sound

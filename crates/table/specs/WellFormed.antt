@@ -5,12 +5,12 @@ use mathlib.Core.Bool.{cond}
 use mathlib.Core.List.{List}
 use lib.Dec.{eqb}
 use lib.ListN.{getD, length}
+use Rattle.searches.specs.Indexed.{sumTo}
 use Rattle.table.specs.declared.Shape.{Shape}
 use Rattle.table.specs.declared.Task.{Task}
 use Rattle.table.specs.declared.Use.{Use}
 use Rattle.table.specs.Fields.{taskAt, useAt}
 use Rattle.table.specs.Rules.{placeFrom}
-use Rattle.table.specs.Indexed.{sumTo}
 
 -- the task at place i
 abbrev pub taskOf : List ℕ → ℕ → Task
@@ -67,4 +67,4 @@ pub record WellFormed (s : List ℕ) (h : Shape) : Type 0 where
   pub in-order : (j k : ℕ) → j < k → k < h .uses → userOf s (h .tasks) (h .«uses_at») j ≤ userOf s (h .tasks) (h .«uses_at») k
   pub rising : (j k : ℕ) → j < k → k < h .uses → userOf s (h .tasks) (h .«uses_at») j ≡ userOf s (h .tasks) (h .«uses_at») k
       → useOf s (h .«uses_at») j .resource < useOf s (h .«uses_at») k .resource
-  pub sections : (i : ℕ) → i < h .tasks → sumTo (h .uses) (sectionsBy s (h .tasks) (h .«uses_at») i) ≤ taskOf s i .run
+  pub sections : (i : ℕ) → i < h .tasks → sumTo (sectionsBy s (h .tasks) (h .«uses_at») i) (h .uses) ≤ taskOf s i .run

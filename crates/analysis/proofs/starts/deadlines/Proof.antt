@@ -4,7 +4,7 @@ use borrow.Author.Needs.{needs}
 use lib.ListN.{length, take, length-set}
 use mathlib.Core.Path.{_≡_, refl, _∙_}
 use native.Mathlib.Omega.{arith}
-use Rattle.table.specs.Indexed.{every}
+use Rattle.searches.specs.Indexed.{every}
 use Rattle.analysis.specs.Rounding.{deadlineOf}
 use Rattle.analysis.proofs.Starting.{front-next, front-all}
 use Rattle.analysis.proofs.starts.deadlines.Statement.{statement}

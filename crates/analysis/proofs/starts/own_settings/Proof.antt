@@ -5,8 +5,8 @@ use lib.ListN.{replicate}
 use mathlib.Core.List.{_++_}
 use mathlib.Core.Path.{_≡_, ap, _∙_}
 use native.Mathlib.Omega.{arith}
-use Rattle.table.specs.Indexed.{every}
-use Rattle.table.proofs.Indexed.{fill-start, fill-more}
+use Rattle.searches.specs.Indexed.{every}
+use Rattle.searches.proofs.Indexed.{fill-start, fill-more}
 use Rattle.analysis.proofs.Starting.{settingOf, settings-are}
 use Rattle.analysis.proofs.starts.own_settings.Statement.{statement}
 use Rattle.analysis.proofs.starts.own_settings.Tie as tie

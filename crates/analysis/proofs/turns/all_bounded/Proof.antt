@@ -5,19 +5,19 @@ use mathlib.Core.Bool.{Bool, false, _&&_}
 use mathlib.Core.Path.{_≡_, refl, sym, ap, _∙_}
 use native.Mathlib.Omega.{arith}
 use lib.ListN.{getD}
-use Rattle.table.specs.Indexed.{allTo}
-use Rattle.table.proofs.Indexed.{all-more}
+use Rattle.searches.specs.Searches.{all}
+use Rattle.searches.proofs.Searching.{all-more}
 use Rattle.analysis.proofs.turns.all_bounded.Statement.{statement}
 use Rattle.analysis.proofs.turns.all_bounded.Tie as tie
 
 abbrev Inv-loop : tie.InvT-loop
-Inv-loop bounds tasks all₀ i₀ all i = (i ≤ tasks) × (all ≡ allTo i (λ j. getD bounds j false))
+Inv-loop bounds tasks so-far₀ i₀ so-far i = (i ≤ tasks) × (so-far ≡ all (λ j. getD bounds j false) i)
 
 abbrev μ-loop : tie.MeasureT-loop
-μ-loop bounds tasks all₀ i₀ all i = tasks - i
+μ-loop bounds tasks so-far₀ i₀ so-far i = tasks - i
 
 loop-holds : tie.Need-loop-holds Inv-loop μ-loop
-unfolding allTo
+unfolding all
 loop-holds c = (omega arith, refl)
 
 element-copy-out-all : tie.Need-element-copy-out-all Inv-loop μ-loop
@@ -33,13 +33,13 @@ loop-again : tie.Need-loop-again Inv-loop μ-loop
 loop-again c =
     let turn = c .before .before in
     let marked : ℕ → Bool = λ j. getD (turn .before .args .bounds .now) j false in
-    (omega arith, ap (λ (b : Bool). b && marked (turn .loop .i)) (turn .loop .inv .1) ∙ sym (all-more (turn .loop .i) marked))
+    (omega arith, ap (λ (b : Bool). b && marked (turn .loop .i)) (turn .loop .inv .1) ∙ sym (all-more marked (turn .loop .i)))
 
 returns : tie.Need-returns Inv-loop μ-loop
 returns c =
     let turn = c .before in
     let whole : turn .loop .i ≡ turn .before .args .tasks = omega arith in
-    turn .loop .inv .1 ∙ ap (λ (n : ℕ). allTo n (λ j. getD (turn .before .args .bounds .now) j false)) whole
+    turn .loop .inv .1 ∙ ap (all (λ j. getD (turn .before .args .bounds .now) j false)) whole
 
 pub all-bounded-spec : {M : Type 1} → statement M
 all-bounded-spec =

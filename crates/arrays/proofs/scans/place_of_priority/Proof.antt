@@ -3,7 +3,7 @@ use Prim.Native.Nat.{_-_, _≤_}
 use borrow.Author.Tests.{eq-eqb, ne-eqb, lt-ltb}
 use mathlib.Core.Path.{_≡_, refl, sym}
 use native.Mathlib.Omega.{arith}
-use Rattle.protocol.specs.Searches.{nowhere, first}
+use Rattle.searches.specs.Searches.{nowhere, first}
 use Rattle.protocol.specs.Tasks.{priority}
 use Rattle.arrays.specs.View.{ofPriority}
 use Rattle.arrays.proofs.Turns.{first-here, first-on}

@@ -3,7 +3,7 @@ use Prim.Native.Nat.{_-_, _≤_}
 use borrow.Author.Needs.{needs}
 use mathlib.Core.Path.{_≡_, refl}
 use native.Mathlib.Omega.{arith}
-use Rattle.protocol.specs.Searches.{best, largest}
+use Rattle.searches.specs.Searches.{best, largest}
 use Rattle.arrays.proofs.Turns.{startedSetting, largest-on, numberIn, readyIn, Stands, stands-none, stands-on, running-found}
 use Rattle.arrays.proofs.scans.running_place.Statement.{statement}
 use Rattle.arrays.proofs.scans.running_place.Tie as tie

@@ -4,7 +4,7 @@ use borrow.Author.Needs.{needs}
 use borrow.Author.Tests.{lt-ltb}
 use mathlib.Core.Path.{_≡_, refl, sym}
 use native.Mathlib.Omega.{arith}
-use Rattle.protocol.specs.Searches.{nowhere, first}
+use Rattle.searches.specs.Searches.{nowhere, first}
 use Rattle.arrays.specs.View.{sleeping}
 use Rattle.arrays.proofs.Turns.{first-here, first-on}
 use Rattle.arrays.proofs.scans.sleeper.Statement.{statement}

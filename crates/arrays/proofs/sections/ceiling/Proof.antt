@@ -3,7 +3,7 @@ use Prim.Native.Nat.{_-_, _≤_}
 use borrow.Author.Needs.{needs}
 use mathlib.Core.Path.{_≡_, refl}
 use native.Mathlib.Omega.{arith}
-use Rattle.protocol.specs.Searches.{largest}
+use Rattle.searches.specs.Searches.{largest}
 use Rattle.protocol.specs.Running.{ceiling}
 use Rattle.arrays.proofs.Turns.{largest-on, userPriority}
 use Rattle.arrays.proofs.sections.ceiling.Statement.{statement}

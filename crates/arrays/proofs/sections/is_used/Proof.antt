@@ -4,9 +4,9 @@ use borrow.Author.Tests.{lt-ltb, le-ltb}
 use mathlib.Core.Path.{_≡_, refl, sym}
 use mathlib.Core.Bool.{false}
 use native.Mathlib.Omega.{arith}
-use Rattle.protocol.specs.Searches.{some}
+use Rattle.searches.specs.Searches.{some}
 use Rattle.protocol.specs.Fit.{used}
-use Rattle.protocol.proofs.Searching.{some-true}
+use Rattle.searches.proofs.Searching.{some-true}
 use Rattle.arrays.specs.View.{countOf}
 use Rattle.arrays.proofs.Turns.{some-on, usesIt}
 use Rattle.arrays.proofs.sections.is_used.Statement.{statement}

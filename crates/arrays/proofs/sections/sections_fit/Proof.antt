@@ -6,7 +6,7 @@ use mathlib.Core.Path.{_≡_, refl, sym, _∙_}
 use mathlib.Core.Bool.{true}
 use mathlib.Core.List.{[]}
 use native.Mathlib.Omega.{arith}
-use Rattle.protocol.specs.Searches.{all}
+use Rattle.searches.specs.Searches.{all}
 use Rattle.arrays.proofs.Turns.{all-not, all-on}
 use Rattle.arrays.proofs.Opened.{namedAt, named-all}
 use Rattle.arrays.proofs.sections.sections_fit.Statement.{statement}

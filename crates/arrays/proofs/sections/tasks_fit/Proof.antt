@@ -4,7 +4,7 @@ use borrow.Author.Tests.{lt-ltb, le-ltb, le-leb, lt-leb}
 use mathlib.Core.Path.{_≡_, refl, sym}
 use mathlib.Core.Bool.{true}
 use native.Mathlib.Omega.{arith}
-use Rattle.protocol.specs.Searches.{all}
+use Rattle.searches.specs.Searches.{all}
 use Rattle.arrays.specs.View.{settingBelow}
 use Rattle.arrays.proofs.Turns.{all-not, all-on}
 use Rattle.arrays.proofs.sections.tasks_fit.Statement.{statement}

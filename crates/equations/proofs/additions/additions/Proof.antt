@@ -2,8 +2,8 @@
 use Prim.Native.Nat.{_≤_, _-_, _*_}
 use mathlib.Core.Path.{_≡_, refl, sym, ap, _∙_}
 use native.Mathlib.Omega.{arith}
-use Rattle.table.specs.Indexed.{sumTo}
-use Rattle.table.proofs.Indexed.{no-sum, sum-more}
+use Rattle.searches.specs.Indexed.{sumTo}
+use Rattle.searches.proofs.Sums.{sumTo-none, sumTo-more}
 use Rattle.equations.specs.View.{viewOf}
 use Rattle.equations.specs.Equations.{addition}
 use Rattle.equations.proofs.Places.{additions-by-place}
@@ -11,13 +11,14 @@ use Rattle.equations.proofs.additions.additions.Statement.{statement}
 use Rattle.equations.proofs.additions.additions.Tie as tie
 
 abbrev Inv-loop : tie.InvT-loop
-Inv-loop bytes shape settings vector at i sum₀ j₀ sum j = (j ≤ i) × (sum ≡ sumTo j (addition (viewOf bytes shape settings) (at .task) vector (at .length))) × (sum ≤ 2000000000000 * j)
+Inv-loop bytes shape settings vector at i sum₀ j₀ sum j =
+    (j ≤ i) × (sum ≡ sumTo (addition (viewOf bytes shape settings) (at .task) vector (at .length)) j) × (sum ≤ 2000000000000 * j)
 
 abbrev μ-loop : tie.MeasureT-loop
 μ-loop bytes shape settings vector at i sum₀ j₀ sum j = i - j
 
 loop-holds : tie.Need-loop-holds Inv-loop μ-loop
-loop-holds c = (omega arith, sym (no-sum 0 _ refl), omega arith)
+loop-holds c = (omega arith, sym (sumTo-none _ 0 refl), omega arith)
 
 added-requires : tie.Need-added-requires Inv-loop μ-loop
 added-requires c κs = (c .before .before .before .before .pre, c .loop-test .taken)
@@ -33,25 +34,29 @@ loop-less c = omega arith
 
 loop-again : tie.Need-loop-again Inv-loop μ-loop
 loop-again c =
-    let entry = c .before .before .before .before .before in
-    let turn = c .before .before in (
+    let entry = c .before .before .before .before .before .args in
+    let turn = c .before .before in
+    let W = viewOf (entry .bytes .now) (entry .shape) (entry .settings .now) in (
       omega arith,
       cc (
         turn .loop .inv .1,
         c .added .ensures .0,
-        sum-more (turn .loop .j) (addition (viewOf (entry .args .bytes .now)
-            (entry .args .shape) (entry .args .settings .now)) (entry .args .at .task) (entry .args .vector .now) (entry .args .at .length)),
+        sumTo-more (addition W (entry .at .task) (entry .vector .now) (entry .at .length)) (turn .loop .j),
       ),
-      omega
-          (arith, c .added .ensures .1, turn .loop .inv .2),
+      omega (arith, c .added .ensures .1, turn .loop .inv .2),
     )
 
 returns : tie.Need-returns Inv-loop μ-loop
-returns c = let e : c .before .loop .j ≡ c .before .before .before .before .args .at .task = omega arith in (
-  c .before .loop .inv .1 ∙ ap (λ n. sumTo n (addition (viewOf (c .before .before .before .before .args .bytes .now) (c .before .before .before .before .args .shape) (c .before .before .before .before .args .settings .now)) (c .before .before .before .before .args .at .task) (c .before .before .before .before .args .vector .now) (c .before .before .before .before .args .at .length))) e
-      ∙ sym (additions-by-place (c .before .before .before .before .args .bytes .now) (c .before .before .before .before .args .shape) (c .before .before .before .before .args .settings .now) (c .before .before .before .before .args .vector .now) (c .before .before .before .before .args .at .task) (c .before .before .before .before .args .at .length) (c .before .before .before .before .pre .well) (c .before .before .before .before .pre .task)),
-  omega (arith, c .before .loop .inv .2, c .before .before .before .before .pre .task, c .before .before .before .before .pre .well .tasks-most),
-)
+returns c =
+    let start = c .before .before .before .before in
+    let entry = start .args in
+    let W = viewOf (entry .bytes .now) (entry .shape) (entry .settings .now) in
+    let e : c .before .loop .j ≡ entry .at .task = omega arith in (
+      c .before .loop .inv .1 ∙ ap (sumTo (addition W (entry .at .task) (entry .vector .now) (entry .at .length))) e
+          ∙ sym (additions-by-place (entry .bytes .now) (entry .shape) (entry .settings .now) (entry .vector .now) (entry .at .task)
+          (entry .at .length) (start .pre .well) (start .pre .task)),
+      omega (arith, c .before .loop .inv .2, start .pre .task, start .pre .well .tasks-most),
+    )
 
 pub additions-spec : {M : Type 1} → statement M
 additions-spec =

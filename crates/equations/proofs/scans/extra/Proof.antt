@@ -1,11 +1,11 @@
 -- `equations::scans::extra` meets its contract.
-use Prim.Native.Nat.{ℕ, _≤_, _-_}
+use Prim.Native.Nat.{_≤_, _-_}
 use borrow.Author.Needs.{needs}
-use mathlib.Core.Path.{_≡_, sym, ap, _∙_}
+use mathlib.Core.Path.{_≡_, ap, _∙_}
 use native.Mathlib.Omega.{arith}
-use Rattle.equations.specs.Counting.{maxTo}
+use Rattle.searches.specs.Searches.{largest}
+use Rattle.searches.proofs.Searching.{largest-below}
 use Rattle.equations.specs.Ready.{Longest}
-use Rattle.equations.proofs.Counting.{max-none}
 use Rattle.equations.proofs.Scanned.{longest-next}
 use Rattle.equations.proofs.scans.extra.Statement.{statement}
 use Rattle.equations.proofs.scans.extra.Tie as tie
@@ -17,7 +17,8 @@ abbrev μ-loop : tie.MeasureT-loop
 μ-loop bytes ceilings priority first start uses best₀ k₀ best k = uses - k
 
 loop-holds : tie.Need-loop-holds Inv-loop μ-loop
-loop-holds c = (omega arith, c .before .pre .1, λ f none is. sym (max-none (c .before .args .first) f none))
+loop-holds c =
+    (omega arith, c .before .pre .1, λ f none is. omega (arith, largest-below f (c .before .args .first) 0 (λ k l. omega (arith, none k l))))
 
 mul-reaching-length : tie.Need-mul-reaching-length Inv-loop μ-loop
 mul-reaching-length c = omega (arith, c .before .before .before .pre .0 .uses-most)
@@ -50,7 +51,7 @@ loop-again c =
 
 returns : tie.Need-returns Inv-loop μ-loop
 returns c = let e : c .before .loop .k ≡ c .before .before .before .args .shape .uses = omega arith in
-    λ f none is. c .before .loop .inv .2 f none (λ k l m. is k l (omega arith)) ∙ ap (λ (n : ℕ). maxTo n f) e
+    λ f none is. c .before .loop .inv .2 f none (λ k l m. is k l (omega arith)) ∙ ap (largest f) e
 
 pub extra-spec : {M : Type 1} → statement M
 extra-spec =

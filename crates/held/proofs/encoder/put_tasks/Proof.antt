@@ -4,7 +4,7 @@ use lib.ListN.{length, take, getD}
 use mathlib.Core.List.{[]}
 use mathlib.Core.Path.{_≡_, refl, ap, sym, _∙_}
 use native.Mathlib.Omega.{arith}
-use Rattle.table.specs.Indexed.{every}
+use Rattle.searches.specs.Indexed.{every}
 use Rattle.table.specs.Fields.{noTask}
 use Rattle.held.specs.Writing.{tasksBytes, taskBytes, all}
 use Rattle.held.proofs.Puts.{put-next}

@@ -5,7 +5,7 @@ use mathlib.Core.List.{_++_, append-nil}
 use mathlib.Core.Path.{_≡_, refl, ap, sym, _∙_}
 use native.Mathlib.Nat.{add-zero}
 use native.Mathlib.Omega.{arith}
-use Rattle.table.specs.Indexed.{every}
+use Rattle.searches.specs.Indexed.{every}
 use Rattle.table.specs.Fields.{noUse}
 use Rattle.held.specs.Writing.{usesBytes, useBytes, all}
 use Rattle.held.proofs.Puts.{put-next}

@@ -4,10 +4,10 @@ use borrow.Author.Needs.{needs}
 use lib.ListN.{replicate}
 use mathlib.Core.Path.{_≡_, ap, _∙_}
 use native.Mathlib.Omega.{arith}
+use Rattle.searches.proofs.Indexed.{fill-start, fill-more}
 use Rattle.table.specs.WellFormed.{taskOf}
 use Rattle.table.specs.Fields.{noTask}
 use Rattle.held.specs.Loading.{tasksOf}
-use Rattle.table.proofs.Indexed.{fill-start, fill-more}
 use Rattle.held.proofs.loader.load_tasks.Statement.{statement}
 use Rattle.held.proofs.loader.load_tasks.Tie as tie
 

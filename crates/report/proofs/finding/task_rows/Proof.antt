@@ -3,7 +3,7 @@ use Prim.Native.Nat.{_≤_, _-_}
 use borrow.Author.Needs.{needs}
 use mathlib.Core.Path.{_≡_, ap, _∙_}
 use native.Mathlib.Omega.{arith}
-use Rattle.table.proofs.Indexed.{filled, fill-start, fill-more}
+use Rattle.searches.proofs.Indexed.{filled, fill-start, fill-more}
 use Rattle.report.specs.Reporting.{taskRow}
 use Rattle.report.specs.Finding.{noRow}
 use Rattle.report.proofs.finding.task_rows.Statement.{statement}

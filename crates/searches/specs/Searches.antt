@@ -8,10 +8,12 @@ pub data Place : Type 0 where
   nowhere : Place
   at : ℕ → Place
 
+-- the one place, or the other where there is none
 abbrev pub orElse : Place → Place → Place
 orElse nowhere p = p
 orElse (at i) p = at i
 
+-- the place i where its test passed
 abbrev pub ifHere : Bool → ℕ → Place
 ifHere true i = at i
 ifHere false i = nowhere

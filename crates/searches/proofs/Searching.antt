@@ -1,14 +1,15 @@
 -- What the searches over the places below a number find.
 use mathlib.Core.Path.{_≡_, refl}
 use mathlib.Core.Bool.{Bool, true, false, _&&_, _||_}
-use Prim.Native.Nat.{ℕ, zero, suc, _≤_, _<_, max}
+use Prim.Native.Nat.{ℕ, zero, suc, _+_, _≤_, _<_, max}
 use native.Mathlib.Nat.{le-refl}
+use native.Mathlib.Numerals.{add-one}
 use native.Mathlib.Omega.{arith}
 use native.Mathlib.Decide.{ℕ-discrete}
 use lib.Dec.{ltb}
 use borrow.Author.Tests.{ltb-true, ltb-false}
-use Rattle.protocol.specs.Searches.{Place, nowhere, at, orElse, ifHere, first, beats, best, all, some, largest}
-use Rattle.protocol.proofs.Testing.{impossible, true-and}
+use Rattle.searches.specs.Searches.{Place, nowhere, at, orElse, ifHere, first, beats, best, all, some, largest}
+use Rattle.searches.proofs.Testing.{impossible, and-true, true-and}
 
 -- what holds below k and at k holds below the next
 one-place-more : (Q : ℕ → Type 0) (k : ℕ) → ((j : ℕ) → j < k → Q j) → Q k → (j : ℕ) → j < suc k → Q j
@@ -77,13 +78,48 @@ unfolding largest
 largest-below f zero b h = omega arith
 largest-below f (suc k) b h = omega (arith, largest-below f k b (λ i lt. h i (omega arith)), h k (omega arith))
 
+-- one number more
+pub largest-more : (f : ℕ → ℕ) (n : ℕ) → largest f (n + 1) ≡ max (largest f n) (f n)
+unfolding largest
+largest-more f n = rw add-one
+
 -- ---- all, and some
+
+-- one test more
+pub all-more : (test : ℕ → Bool) (n : ℕ) → all test (n + 1) ≡ all test n && test n
+unfolding all
+all-more test n = rw add-one
+
+-- tests that are equal at each place
+pub all-same : (test other : ℕ → Bool) (n : ℕ) → ((i : ℕ) → i < n → test i ≡ other i) → all test n ≡ all other n
+unfolding all
+all-same test other zero h = refl
+all-same test other (suc k) h = rw (all-same test other k (λ i lt. h i (omega arith)), h k (omega arith))
 
 -- where each passes all pass
 pub all-true : (test : ℕ → Bool) (n : ℕ) → ((i : ℕ) → i < n → test i ≡ true) → all test n ≡ true
 unfolding all
 all-true test zero h = refl
 all-true test (suc k) h = true-and (all-true test k (λ i lt. h i (omega arith))) (h k (omega arith))
+
+-- where all pass each passes
+pub all-each : (test : ℕ → Bool) (n : ℕ) → all test n ≡ true → (i : ℕ) → i < n → test i ≡ true
+unfolding all
+all-each test zero e i lt = absurd (omega arith)
+all-each test (suc k) e i lt =
+    let both = and-true (all test k) (test k) e in
+    one-place-more (λ i. test i ≡ true) k (all-each test k (both .0)) (both .1) i lt
+
+-- where not all pass one fails
+pub all-fails : (test : ℕ → Bool) (n : ℕ) → all test n ≡ false → (i : ℕ) × (i < n) × (test i ≡ false)
+unfolding all
+all-fails test zero e = absurd (impossible cc)
+all-fails test (suc k) e = go (all test k) refl e (all-fails test k)
+  where
+    go : (b : Bool) → all test k ≡ b → b && test k ≡ false → (all test k ≡ false → (i : ℕ) × (i < k) × (test i ≡ false))
+        → (i : ℕ) × (i < suc k) × (test i ≡ false)
+    go true f e more = (k, omega arith, e)
+    go false f e more = let w = more f in (w .0, omega (arith, w .1), w .2)
 
 -- where one passes some pass
 pub some-true : (test : ℕ → Bool) (n i : ℕ) → i < n → test i ≡ true → some test n ≡ true

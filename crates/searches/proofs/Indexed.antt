@@ -1,82 +1,19 @@
--- Laws of sums, tests and lists over an index.
+-- Laws of lists over an index.
 use Prim.Native.Nat.{ℕ, zero, suc, _+_, _-_, _<_, _≤_}
 use mathlib.Core.Path.{_≡_, refl, sym, ap, _∙_}
-use mathlib.Core.Bool.{Bool, true, false, _&&_}
 use mathlib.Core.List.{List, [], _∷_, _++_, append-assoc}
 use native.Mathlib.Numerals.{add-one}
 use native.Mathlib.Nat.{add-zero}
-use native.Mathlib.Decide.{ℕ-discrete}
+use native.Mathlib.Decide.{decLt}
 use native.Mathlib.Omega.{arith}
 use lib.ListN.{length, getD, set, take, drop, replicate, length-append, length-replicate, List·getD-append}
-use lib.Seq.{set-at, drop-cons, getD-append-add}
-use Rattle.table.specs.Indexed.{sumTo, allTo, every}
-
--- ---- sums
-
--- of nothing
-pub no-sum : (n : ℕ) (f : ℕ → ℕ) → n ≡ 0 → sumTo n f ≡ 0
-unfolding sumTo
-no-sum n f e = rw e
-
--- of one more
-pub sum-more : (n : ℕ) (f : ℕ → ℕ) → sumTo (n + 1) f ≡ sumTo n f + f n
-unfolding sumTo
-sum-more n f = rw add-one
-
--- more add up to no less
-pub sum-grows : (n k : ℕ) (f : ℕ → ℕ) → k ≤ n → sumTo k f ≤ sumTo n f
-unfolding sumTo
-sum-grows zero k f l = let z : k ≡ 0 = omega arith in rw z (omega arith)
-sum-grows (suc n) k f l = go (ℕ-discrete k (suc n)) (sum-grows n k f)
-  where
-    go : Dec (k ≡ suc n) → (k ≤ n → sumTo k f ≤ sumTo n f) → sumTo k f ≤ sumTo n f + f n
-    go (yes e) more = rw e (omega arith)
-    go (no d) more = omega (arith, more (omega arith))
-
--- ---- tests
-
--- of one more
-pub all-more : (n : ℕ) (test : ℕ → Bool) → allTo (n + 1) test ≡ allTo n test && test n
-unfolding allTo
-all-more n test = rw add-one
-
--- equal where they are made
-pub all-same : (n : ℕ) (test other : ℕ → Bool) → ((i : ℕ) → i < n → test i ≡ other i) → allTo n test ≡ allTo n other
-unfolding allTo
-all-same zero test other h = refl
-all-same (suc n) test other h = rw (all-same n test other (λ i l. h i (omega arith)), h n (omega arith))
-
--- each passes: so do all
-pub all-true : (n : ℕ) (test : ℕ → Bool) → ((i : ℕ) → i < n → test i ≡ true) → allTo n test ≡ true
-unfolding allTo
-all-true zero test h = refl
-all-true (suc n) test h = rw (all-true n test (λ i l. h i (omega arith)), h n (omega arith))
-
--- all pass: so does each
-pub all-each : (n : ℕ) (test : ℕ → Bool) → allTo n test ≡ true → (i : ℕ) → i < n → test i ≡ true
-unfolding allTo
-all-each zero test e i l = absurd (omega arith)
-all-each (suc n) test e i l = go (allTo n test) (test n) refl refl e (all-each n test) (ℕ-discrete i n)
-  where
-    go : (a b : Bool) → allTo n test ≡ a → test n ≡ b → a && b ≡ true → (allTo n test ≡ true → (i : ℕ) → i < n → test i ≡ true) → Dec (i ≡ n) → test i ≡ true
-    go true b f g h more (yes q) = rw q (g ∙ h)
-    go true b f g h more (no ne) = more f i (omega arith)
-    go false b f g h more d = absurd (let y : _≡_ {A = ℕ} 0 1 = cc in omega arith)
-
--- not all pass: one doesn't
-pub all-fails : (n : ℕ) (test : ℕ → Bool) → allTo n test ≡ false → (i : ℕ) × (i < n) × (test i ≡ false)
-unfolding allTo
-all-fails zero test e = absurd (let y : _≡_ {A = ℕ} 0 1 = cc in omega arith)
-all-fails (suc n) test e = go (allTo n test) (test n) refl refl e (all-fails n test)
-  where
-    go : (a b : Bool) → allTo n test ≡ a → test n ≡ b → a && b ≡ false → (allTo n test ≡ false → (i : ℕ) × (i < n) × (test i ≡ false))
-        → (i : ℕ) × (i < suc n) × (test i ≡ false)
-    go true b f g h more = (n, omega arith, g ∙ h)
-    go false b f g h more = let w = more f in (w .0, omega (arith, w .1), w .2)
+use lib.Seq.{ext-getD, set-at, drop-cons, getD-append-add}
+use Rattle.searches.specs.Indexed.{every}
 
 -- ---- lists that a loop fills from the front, one entry a turn
 
 module _ {A : Type 0} (f : ℕ → A) where
+  -- there are k of them
   pub length-every : (k i : ℕ) → length (every f k i) ≡ k
   unfolding every
   length-every zero i = refl
@@ -90,6 +27,7 @@ module _ {A : Type 0} (f : ℕ → A) where
       let e : i + 1 + k ≡ i + suc k = omega arith in
       ap (λ (l : List A). f i ∷ l) (every-snoc k (i + 1) ∙ ap (λ (n : ℕ). every f k (i + 1) ++ (f n ∷ [])) e)
 
+  -- one more from the first on
   pub every-more : (i : ℕ) → every f (i + 1) 0 ≡ every f i 0 ++ (f i ∷ [])
   every-more i = let z : 0 + i ≡ i = omega arith in rw (add-one, every-snoc i 0, z)
 
@@ -98,10 +36,12 @@ module _ {A : Type 0} (f : ℕ → A) where
     abbrev pub filled : ℕ → List A
     filled i = every f i 0 ++ replicate (total - i) none
 
+    -- before the first
     pub fill-start : replicate total none ≡ filled 0
     unfolding every
     fill-start = let e : total ≡ total - 0 = omega arith in ap (λ (n : ℕ). replicate n none) e
 
+    -- one more is stored
     pub fill-more : (i : ℕ) → i < total → set (filled i) i (f i) ≡ filled (i + 1)
     fill-more i h =
         let e : total - i ≡ suc (total - (i + 1)) = omega arith in
@@ -111,6 +51,7 @@ module _ {A : Type 0} (f : ℕ → A) where
 -- ---- what such lists hold
 
 module _ {A : Type 0} where
+  -- an entry
   pub getD-every : (f : ℕ → A) (k i j : ℕ) (d : A) → j < k → getD (every f k i) j d ≡ f (i + j)
   unfolding every
   getD-every f zero i j d h = absurd (omega arith)
@@ -144,6 +85,16 @@ module _ {A : Type 0} where
   filled-length f none total k h =
       length-append (every f k 0) (replicate (total - k) none)
       ∙ omega (arith, length-every f k 0, length-replicate {A = A} (total - k) none)
+
+  -- a list with these entries, and none past them, is that
+  pub filled-is : (f : ℕ → A) (none : A) (total k : ℕ) (l : List A) → k ≤ total → length l ≡ total → ((i : ℕ) → i < k → getD l i none ≡ f i)
+      → ((i : ℕ) → k ≤ i → i < total → getD l i none ≡ none) → l ≡ every f k 0 ++ replicate (total - k) none
+  filled-is f none total k l h size here past =
+      ext-getD none l (every f k 0 ++ replicate (total - k) none) (size ∙ sym (filled-length f none total k h)) (λ i p. go i p (decLt i k))
+    where
+      go : (i : ℕ) → i < length l → Dec (i < k) → getD l i none ≡ getD (every f k 0 ++ replicate (total - k) none) i none
+      go i p (yes q) = here i q ∙ sym (filled-at f none k (total - k) i q)
+      go i p (no q) = past i (omega arith) (omega arith) ∙ sym (filled-past f none k (total - k) i (omega arith))
 
   -- equal where they are read
   pub every-same : (f g : ℕ → A) (k i : ℕ) → ((j : ℕ) → j < i + k → f j ≡ g j) → every f k i ≡ every g k i

@@ -1,0 +1,4 @@
+pub mod Testing
+pub mod Searching
+pub mod Sums
+pub mod Indexed
