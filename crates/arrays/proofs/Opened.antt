@@ -1,7 +1,7 @@
 -- The open sections by their arrays: how many, whether each is named, and the ceiling of the last.
 use mathlib.Core.Path.{_≡_, refl, sym, ap, _∙_}
 use mathlib.Core.List.{List, [], _∷_, _++_}
-use mathlib.Core.Bool.{Bool, true, false, _&&_}
+use mathlib.Core.Bool.{Bool, true, false, _&&_, and-true, and-assoc}
 use Prim.Native.Nat.{ℕ, zero, suc}
 use native.Mathlib.Omega.{arith}
 use lib.Dec.{ltb, leb}
@@ -26,18 +26,10 @@ sections-length places resources (suc n) = simp length-append (omega (arith, sec
 -- a list with one section more
 named-snoc : (T : Table) (l : List Section) (s : Section) → named T (l ++ (s ∷ [])) ≡ named T l && (ltb (s .place) (T .size) && used T (s .resource))
 unfolding named
-named-snoc T [] s = right (ltb (s .place) (T .size) && used T (s .resource))
-  where
-    right : (b : Bool) → b && true ≡ b
-    right true = refl
-    right false = refl
+named-snoc T [] s = and-true (ltb (s .place) (T .size) && used T (s .resource))
 named-snoc T (t ∷ l) s =
     rw (named-snoc T l s)
-    (assoc (ltb (t .place) (T .size) && used T (t .resource)) (named T l) (ltb (s .place) (T .size) && used T (s .resource)))
-  where
-    assoc : (a b c : Bool) → a && (b && c) ≡ (a && b) && c
-    assoc true b c = refl
-    assoc false b c = refl
+    (sym (and-assoc (ltb (t .place) (T .size) && used T (t .resource)) (named T l) (ltb (s .place) (T .size) && used T (s .resource))))
 
 -- whether the section in a slot is named
 abbrev pub namedAt : List ℕ → List ℕ → List ℕ → ℕ → ℕ → Bool

@@ -7,7 +7,6 @@ use lib.Dec.{ltb, leb, eqb}
 use lib.ListN.{length, getD, set}
 use Rattle.searches.specs.Searches.{Place, nowhere, at}
 use Rattle.protocol.specs.Acting.{oneMore}
-use Rattle.arrays.specs.declared.scans.Candidate.{Candidate}
 use Rattle.arrays.specs.View.{countOf}
 
 -- the started marks with that at a place set
@@ -44,7 +43,3 @@ pub record Woken (a priorities : List ℕ) (c n : ℕ) (b : List ℕ) : Type 0 w
   pub long : length b ≡ length a
   pub before : (j : ℕ) → j < n → getD b j 0 ≡ wokenNumber c (getD priorities j 0) (getD a j 0)
   pub past : (j : ℕ) → n ≤ j → getD b j 0 ≡ getD a j 0
-
--- the running candidate after the place i is looked at: taken where it passes the test and no candidate so far is as high
-abbrev pub bettered : Candidate → ℕ → Bool → ℕ → Candidate
-bettered found i test p = cond (test && leb (found .above) p) (record { place = i; above = p + 1 }) found

@@ -6,7 +6,7 @@ use lib.Dec.{ltb, eqb}
 use lib.ListN.{getD}
 use Rattle.protocol.specs.Tasks.{Table}
 use Rattle.searches.specs.Searches.{Place, nowhere, at, ifHere, only}
-use Rattle.protocol.specs.State.{Status, none, ready, waiting, asleep, Entry, Section, State, isAsleep}
+use Rattle.protocol.specs.State.{Status, none, ready, waiting, asleep, Entry, Section, State, isReady, isAsleep}
 use Rattle.protocol.specs.Checks.{numbered}
 use Rattle.protocol.specs.Acting.{section}
 
@@ -81,6 +81,10 @@ abbrev pub holders : List ℕ → ℕ → Entry
 holders held = entriesBy [] [] [] [] held []
 
 -- ---- tests of a place
+
+-- whether the job is ready and above the level y
+abbrev pub eligibleAt : List ℕ → List ℕ → ℕ → ℕ → Bool
+eligibleAt states priorities y i = isReady (statusOf (getD states i 0)) && ltb y (getD priorities i 0)
 
 -- whether the task has the priority p
 abbrev pub ofPriority : List ℕ → ℕ → ℕ → Bool

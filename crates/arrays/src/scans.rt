@@ -1,12 +1,11 @@
 // Scans over the tasks: who runs, and at which place a job stands.
 ghost use mathlib.Core.Path.{_≡_};
-ghost use mathlib.Core.Bool.{cond};
-ghost use Prim.Native.Nat.{_+_, _≤_, _<_};
-ghost use lib.Dec.{ltb};
-ghost use Rattle.searches.specs.Searches.{first};
-ghost use Rattle.protocol.specs.Running.{aboveSystem, running};
-ghost use Rattle.arrays.specs.View.{ranked, jobs, ofPriority, ofNumber, sleeping, placeOf, passing};
-ghost use Rattle.arrays.specs.Stores.{bettered};
+ghost use mathlib.Core.List.{[]};
+ghost use Prim.Native.Nat.{_≤_, _<_};
+ghost use lib.ListN.{getD};
+ghost use Rattle.searches.specs.Searches.{first, largest, only};
+ghost use Rattle.protocol.specs.Running.{systemPriority, aboveSystem, running};
+ghost use Rattle.arrays.specs.View.{ranked, jobs, eligibleAt, ofPriority, ofNumber, sleeping, placeOf, passing};
 use crate::Number;
 use crate::marks::has_number;
 use crate::marks::is_asleep;
@@ -14,39 +13,44 @@ use crate::marks::is_ready;
 use crate::marks::is_unfinished;
 use crate::marks::larger;
 use crate::marks::only_if;
-use crate::marks::wide;
 
-// The running candidate so far: its place, or 32, and one more than its priority, or 0.
-pub struct Candidate {
-    pub place: usize,
-    pub above: usize,
-}
-
-// The candidate after one more place.
-fn better(found: Candidate, place: usize, test: bool, priority: u8) -> Candidate
-    ensures { λ r. ⌜ r ≡ bettered found place test priority ⌝ }
+// The largest setting among started, unfinished jobs, else 0.
+fn system_priority<'a>(
+    states: &'a [u8; 32],
+    started: &'a [bool; 32],
+    settings: &'a [u8; 32],
+    tasks: usize,
+) -> u8
+    requires { ⌜ tasks ≤ 32 ⌝ }
+    ensures { λ r. ⌜ r ≡ systemPriority (ranked tasks [] (now (settings .entry))) (jobs (now (states .entry)) (now (started .entry))) ⌝ }
 {
-    let p = wide(priority);
-    if test & (found.above <= p) {
-        return Candidate {
-            place: place,
-            above: p + 1,
-        };
+    let mut highest: u8 = 0;
+    let mut i: usize = 0;
+    while i < tasks {
+        let counts = started[i] & is_unfinished(states[i]);
+        highest = larger(highest, only_if(counts, settings[i]));
+        i += 1;
     }
-    found
+    highest
 }
 
-// The candidate's place where its priority is above a level, else 32.
-fn place_above(found: Candidate, level: u8) -> usize
-    ensures { λ r. ⌜ r ≡ cond (ltb (level + 1) (found .above)) (found .place) 32 ⌝ }
+// The highest priority of a ready job above the level, 0 where there is none.
+fn highest_ready<'a>(states: &'a [u8; 32], priorities: &'a [u8; 32], tasks: usize, level: u8) -> u8
+    requires { ⌜ tasks ≤ 32 ⌝ }
+    ensures { λ r. ⌜ r ≡ largest (λ i. only (eligibleAt (now (states .entry)) (now (priorities .entry)) level i) (getD (now (priorities .entry)) i 0)) tasks ⌝ }
 {
-    if wide(level) + 1 < found.above {
-        return found.place;
+    let mut highest: u8 = 0;
+    let mut i: usize = 0;
+    while i < tasks {
+        let p = priorities[i];
+        let test = is_ready(states[i]) & (level < p);
+        highest = larger(highest, only_if(test, p));
+        i += 1;
     }
-    32
+    highest
 }
 
-// The place of the running job, or 32: the highest ready one, where it is above the system priority.
+// The place of the running job, or 32: the first ready job above the system priority that has the highest priority of these.
 pub fn running_place<'a>(
     states: &'a [u8; 32],
     started: &'a [bool; 32],
@@ -58,20 +62,18 @@ pub fn running_place<'a>(
     ensures { λ r. ⌜ placeOf r ≡ running aboveSystem (ranked tasks (now (priorities .entry)) (now (settings .entry)))
         (jobs (now (states .entry)) (now (started .entry))) ⌝ }
 {
-    let mut system: u8 = 0;
-    let mut found = Candidate {
-        place: 32,
-        above: 0,
-    };
+    let system = system_priority(states, started, settings, tasks);
+    let highest = highest_ready(states, priorities, tasks, system);
     let mut i: usize = 0;
     while i < tasks {
-        let state = states[i];
-        let counts = started[i] & is_unfinished(state);
-        system = larger(system, only_if(counts, settings[i]));
-        found = better(found, i, is_ready(state), priorities[i]);
+        let p = priorities[i];
+        let test = (is_ready(states[i]) & (system < p)) & (p == highest);
+        if test {
+            return i;
+        }
         i += 1;
     }
-    place_above(found, system)
+    32
 }
 
 // The place of the first task with a priority, or 32.

@@ -76,14 +76,13 @@ fn tasks_fit<'a>(settings: &'a [u8; 32], priorities: &'a [u8; 32], tasks: usize)
     if 32 < tasks {
         return false;
     }
+    let mut below = true;
     let mut i: usize = 0;
     while i < tasks {
-        if priorities[i] <= settings[i] {
-            return false;
-        }
+        below = below & (settings[i] < priorities[i]);
         i += 1;
     }
-    true
+    below
 }
 
 // Whether at most 16 sections are open, each naming the place of one of at most 32 tasks and a resource that some task uses.

@@ -42,7 +42,7 @@ Effect E T s t (slept p) = t .sections ≡ s .sections
 Effect E T s t (ended p) = t .sections ≡ s .sections
 
 -- starting a job moves no section
-start-sections : (p : Place) (s : State) → start p s .sections ≡ s .sections
+pub start-sections : (p : Place) (s : State) → start p s .sections ≡ s .sections
 start-sections nowhere s = refl
 start-sections (at i) s = refl
 

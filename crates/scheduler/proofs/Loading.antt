@@ -19,11 +19,10 @@ use Rattle.table.specs.Reading.{readTable}
 use Rattle.table.specs.Rules.{placeFrom}
 use Rattle.searches.specs.Indexed.{every}
 use Rattle.table.specs.WellFormed.{taskOf, useOf, userOf, WellFormed}
-use Rattle.searches.proofs.Indexed.{length-every, every-at}
+use Rattle.searches.proofs.Indexed.{length-every, every-at, listed}
 use Rattle.table.proofs.Laws.{place-has}
 use Rattle.scheduler.specs.declared.Scheduler.{Scheduler}
 use Rattle.scheduler.specs.Fresh.{column, names, timesOf, timesBy, freshOf, empty, setUpBy, setUp}
-use Rattle.scheduler.proofs.Written.{listed}
 
 -- ---- an array by its places
 

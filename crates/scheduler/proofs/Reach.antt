@@ -16,6 +16,7 @@ use Rattle.protocol.specs.Acting.{put, begun, own, section, same, has, skip, wi
 use Rattle.protocol.specs.Step.{answer, step}
 use Rattle.protocol.proofs.Runner.{runs}
 use Rattle.protocol.proofs.Granted.{Granted, granted}
+use Rattle.protocol.proofs.Effects.{start-sections}
 use Rattle.protocol.proofs.Steps.{step-each}
 
 -- ---- places
@@ -95,11 +96,6 @@ without-shorter u (t ∷ l) = go (same u t) (without-shorter u l)
     go false h = omega arith
 
 module _ (E : Rule) (T : Table) (s : State) where
-  -- starting leaves the sections
-  start-sections : (p : Place) (t : State) → start p t .sections ≡ t .sections
-  start-sections nowhere t = refl
-  start-sections (at i) t = refl
-
   -- closing makes them no more
   closed-few : (b : Bool) (u : Section) (t : State) → length (t .sections) ≤ 16 → length (closed b T u t .sections) ≤ 16
   closed-few true u t h = omega (arith, without-shorter u (t .sections))

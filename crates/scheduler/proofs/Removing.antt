@@ -1,6 +1,6 @@
 -- A section removed from the arrays is removed from the machine's list.
-use mathlib.Core.Path.{_≡_, refl, ap, subst, _∙_}
-use mathlib.Core.Bool.{Bool, true, false, _||_}
+use mathlib.Core.Path.{_≡_, refl, sym, ap, subst, _∙_}
+use mathlib.Core.Bool.{Bool, true, false, _||_, or-false, or-assoc}
 use mathlib.Core.List.{List, [], _∷_, _++_}
 use Prim.Native.Nat.{ℕ, zero, suc, _-_, _≤_, _<_}
 use native.Mathlib.Omega.{arith}
@@ -21,16 +21,8 @@ use Rattle.arrays.specs.Stores.{Removed}
 -- whether it has the section s
 has-snoc : (s t : Section) (l : List Section) → has s (l ++ (t ∷ [])) ≡ has s l || same s t
 unfolding has
-has-snoc s t [] = right (same s t)
-  where
-    right : (b : Bool) → b || false ≡ b
-    right true = refl
-    right false = refl
-has-snoc s t (u ∷ l) = rw (has-snoc s t l) (assoc (same s u) (has s l) (same s t))
-  where
-    assoc : (a b c : Bool) → a || (b || c) ≡ (a || b) || c
-    assoc true b c = refl
-    assoc false b c = refl
+has-snoc s t [] = or-false (same s t)
+has-snoc s t (u ∷ l) = rw (has-snoc s t l) (sym (or-assoc (same s u) (has s l) (same s t)))
 
 -- without the section s, where an earlier one is it
 without-in : (s t : Section) (l : List Section) → has s l ≡ true → without s (l ++ (t ∷ [])) ≡ without s l ++ (t ∷ [])

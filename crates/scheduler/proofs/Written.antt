@@ -9,13 +9,13 @@ use native.Mathlib.Nat.{div-add-mod', mod-lt}
 use native.Mathlib.Decide.{ℕ-discrete, decLt}
 use lib.Dec.{leb}
 use lib.ListN.{length, getD, List·getD-append}
-use lib.Seq.{ext-getD, getD-at}
+use lib.Seq.{getD-at}
 use borrow.Author.Tests.{lt-ltb, le-ltb, le-leb}
 use Rattle.searches.specs.Searches.{only}
 use Rattle.protocol.specs.State.{Status, none, ready, waiting, asleep, Section}
 use Rattle.protocol.specs.Acting.{section}
 use Rattle.searches.specs.Indexed.{every}
-use Rattle.searches.proofs.Indexed.{length-every, every-at}
+use Rattle.searches.proofs.Indexed.{listed}
 use Rattle.arrays.specs.View.{statusOf, countOf, sectionsBy}
 use Rattle.arrays.proofs.Opened.{sections-length}
 use Rattle.scheduler.specs.declared.Scheduler.{Scheduler}
@@ -72,12 +72,6 @@ beside-self s = record {
 }
 
 -- ---- an array by its places
-
--- a list is what its places hold
-pub listed : {A : Type 0} (l : List A) (d : A) (n : ℕ) (f : ℕ → A) → length l ≡ n → ((k : ℕ) → k < n → getD l k d ≡ f k) → l ≡ every f n 0
-listed l d n f e h =
-    ext-getD d l (every f n 0) (e ∙ sym (length-every f n 0))
-    (λ k lt. h k (omega arith) ∙ sym (every-at f n k d (omega arith)))
 
 -- the counts by place and resource
 count-again : (l : List ℕ) (k : ℕ) → getD l k 0 ≡ countOf l (k / 16) (k % 16 + 1)

@@ -110,3 +110,9 @@ module _ {A : Type 0} where
   every-take xs d (suc k) i h =
       ap (λ (l : List A). getD xs i d ∷ l) (every-take xs d k (i + 1) (omega arith))
       ∙ rw add-one (sym (ap (take (suc k)) (drop-cons xs i d (omega arith))))
+
+-- a list is what its places hold
+pub listed : {A : Type 0} (l : List A) (d : A) (n : ℕ) (f : ℕ → A) → length l ≡ n → ((k : ℕ) → k < n → getD l k d ≡ f k) → l ≡ every f n 0
+listed l d n f e h =
+    ext-getD d l (every f n 0) (e ∙ sym (length-every f n 0))
+    (λ k lt. h k (omega arith) ∙ sym (every-at f n k d (omega arith)))

@@ -1,6 +1,6 @@
 -- What the searches over the places below a number find.
-use mathlib.Core.Path.{_≡_, refl}
-use mathlib.Core.Bool.{Bool, true, false, _&&_, _||_}
+use mathlib.Core.Path.{_≡_, refl, sym, _∙_}
+use mathlib.Core.Bool.{Bool, true, false, _&&_, _||_, and-false}
 use Prim.Native.Nat.{ℕ, zero, suc, _+_, _≤_, _<_, max}
 use native.Mathlib.Nat.{le-refl}
 use native.Mathlib.Numerals.{add-one}
@@ -32,6 +32,31 @@ first-found test (suc k) i e = go (first test k) (test k) refl (first-found test
     go nowhere true t h e = let q : k ≡ i = cc in (omega arith, rw (← q) t)
     go nowhere false t h e = absurd (impossible cc)
     go (at j) b t h e = let w = h i e in (omega arith, w .1)
+
+-- none before this place, and this place passes
+pub first-here : (test : ℕ → Bool) (i n : ℕ) → first test i ≡ nowhere → test i ≡ true → i < n → first test n ≡ at i
+unfolding first
+first-here test i zero e t h = absurd (omega arith)
+first-here test i (suc n) e t h = go (ℕ-discrete i n) (first-here test i n e t)
+  where
+    go : Dec (i ≡ n) → (i < n → first test n ≡ at i) → orElse (first test n) (ifHere (test n) n) ≡ at i
+    go (yes q) more = rw (← q, e, t)
+    go (no ne) more = rw (more (omega arith))
+
+-- none before this place, nor here
+pub first-on : (test : ℕ → Bool) (i : ℕ) → first test i ≡ nowhere → test i ≡ false → first test (i + 1) ≡ nowhere
+unfolding first
+first-on test i e t = rw (add-one, e, t)
+
+-- where none passes there is none
+pub first-none : (test : ℕ → Bool) (n : ℕ) → ((j : ℕ) → j < n → test j ≡ true → ⊥) → first test n ≡ nowhere
+unfolding first
+first-none test zero h = refl
+first-none test (suc k) h = rw (first-none test k (λ j lt. h j (omega arith))) (go (test k) refl)
+  where
+    go : (b : Bool) → test k ≡ b → ifHere b k ≡ nowhere
+    go true e = absurd (h k (omega arith) e)
+    go false e = refl
 
 -- ---- the best
 
@@ -83,6 +108,10 @@ pub largest-more : (f : ℕ → ℕ) (n : ℕ) → largest f (n + 1) ≡ max (la
 unfolding largest
 largest-more f n = rw add-one
 
+-- the same, as a loop has it
+pub largest-on : (f : ℕ → ℕ) (n x : ℕ) → x ≡ max (largest f n) (f n) → x ≡ largest f (n + 1)
+largest-on f n x e = e ∙ sym (largest-more f n)
+
 -- ---- all, and some
 
 -- one test more
@@ -131,3 +160,23 @@ some-true test (suc k) i lt e = go (some test k) (ℕ-discrete i k) (some-true t
     go true d more = refl
     go false (yes q) more = rw (← q) e
     go false (no ne) more = absurd (let z = more (omega arith) e in impossible cc)
+
+-- one that fails is enough
+pub all-not : (test : ℕ → Bool) (i n : ℕ) → test i ≡ false → i < n → all test n ≡ false
+unfolding all
+all-not test i zero t h = absurd (omega arith)
+all-not test i (suc n) t h = go (ℕ-discrete i n) (all-not test i n t)
+  where
+    go : Dec (i ≡ n) → (i < n → all test n ≡ false) → all test n && test n ≡ false
+    go (yes q) more = rw (← q, t) (and-false (all test i))
+    go (no ne) more = rw (more (omega arith))
+
+-- one more passes
+pub all-on : (test : ℕ → Bool) (i : ℕ) → all test i ≡ true → test i ≡ true → all test (i + 1) ≡ true
+unfolding all
+all-on test i e t = rw (add-one, e, t)
+
+-- one more fails
+pub some-on : (test : ℕ → Bool) (i : ℕ) → some test i ≡ false → test i ≡ false → some test (i + 1) ≡ false
+unfolding some
+some-on test i e t = rw (add-one, e, t)

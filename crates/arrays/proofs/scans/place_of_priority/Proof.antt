@@ -6,7 +6,7 @@ use native.Mathlib.Omega.{arith}
 use Rattle.searches.specs.Searches.{nowhere, first}
 use Rattle.protocol.specs.Tasks.{priority}
 use Rattle.arrays.specs.View.{ofPriority}
-use Rattle.arrays.proofs.Turns.{first-here, first-on}
+use Rattle.searches.proofs.Searching.{first-here, first-on}
 use Rattle.arrays.proofs.scans.place_of_priority.Statement.{statement}
 use Rattle.arrays.proofs.scans.place_of_priority.Tie as tie
 

@@ -5,7 +5,8 @@ use mathlib.Core.Path.{_≡_, refl}
 use native.Mathlib.Omega.{arith}
 use Rattle.searches.specs.Searches.{largest}
 use Rattle.protocol.specs.Running.{ceiling}
-use Rattle.arrays.proofs.Turns.{largest-on, userPriority}
+use Rattle.searches.proofs.Searching.{largest-on}
+use Rattle.arrays.proofs.Turns.{userPriority}
 use Rattle.arrays.proofs.sections.ceiling.Statement.{statement}
 use Rattle.arrays.proofs.sections.ceiling.Tie as tie
 

@@ -8,7 +8,8 @@ use Rattle.searches.specs.Searches.{some}
 use Rattle.protocol.specs.Fit.{used}
 use Rattle.searches.proofs.Searching.{some-true}
 use Rattle.arrays.specs.View.{countOf}
-use Rattle.arrays.proofs.Turns.{some-on, usesIt}
+use Rattle.searches.proofs.Searching.{some-on}
+use Rattle.arrays.proofs.Turns.{usesIt}
 use Rattle.arrays.proofs.sections.is_used.Statement.{statement}
 use Rattle.arrays.proofs.sections.is_used.Tie as tie
 

@@ -6,7 +6,7 @@ use mathlib.Core.Path.{_≡_, refl, sym}
 use native.Mathlib.Omega.{arith}
 use Rattle.searches.specs.Searches.{nowhere, first}
 use Rattle.arrays.specs.View.{isSection}
-use Rattle.arrays.proofs.Turns.{first-here, first-on}
+use Rattle.searches.proofs.Searching.{first-here, first-on}
 use Rattle.arrays.proofs.sections.section_at.Statement.{statement}
 use Rattle.arrays.proofs.sections.section_at.Tie as tie
 

@@ -7,7 +7,7 @@ use mathlib.Core.Bool.{true}
 use mathlib.Core.List.{[]}
 use native.Mathlib.Omega.{arith}
 use Rattle.searches.specs.Searches.{all}
-use Rattle.arrays.proofs.Turns.{all-not, all-on}
+use Rattle.searches.proofs.Searching.{all-not, all-on}
 use Rattle.arrays.proofs.Opened.{namedAt, named-all}
 use Rattle.arrays.proofs.sections.sections_fit.Statement.{statement}
 use Rattle.arrays.proofs.sections.sections_fit.Tie as tie

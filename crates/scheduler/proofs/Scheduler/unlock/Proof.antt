@@ -13,7 +13,7 @@ use lib.Dec.{ltb}
 use mathlib.Core.Path.{ap}
 use Prim.Native.Nat.{_-_}
 use Rattle.scheduler.proofs.Closing.{one-less, unlock-done}
-use Rattle.scheduler.proofs.Settles.{only-most}
+use Rattle.searches.proofs.Leading.{only-most}
 use Rattle.scheduler.proofs.Scheduler.unlock.Statement.{statement}
 use Rattle.scheduler.proofs.Scheduler.unlock.Tie as tie
 

@@ -1,0 +1,71 @@
+-- `arrays::scans::highest_ready` meets its contract.
+use Prim.Native.Nat.{_-_, _≤_}
+use borrow.Author.Needs.{needs}
+use mathlib.Core.Path.{_≡_, refl}
+use native.Mathlib.Omega.{arith}
+use Rattle.searches.specs.Searches.{largest}
+use Rattle.searches.proofs.Searching.{largest-on}
+use Rattle.searches.proofs.Leading.{passed}
+use Rattle.arrays.specs.View.{eligibleAt}
+use Rattle.arrays.proofs.Turns.{numberIn}
+use Rattle.arrays.proofs.scans.highest_ready.Statement.{statement}
+use Rattle.arrays.proofs.scans.highest_ready.Tie as tie
+
+abbrev Inv-loop : tie.InvT-loop
+Inv-loop states priorities tasks level highest₀ i₀ highest i =
+    (i ≤ tasks) × (highest ≡ largest (passed (eligibleAt states priorities level) (numberIn priorities)) i)
+
+abbrev μ-loop : tie.MeasureT-loop
+μ-loop states priorities tasks level highest₀ i₀ highest i = tasks - i
+
+loop-holds : tie.Need-loop-holds Inv-loop μ-loop
+unfolding largest
+loop-holds c = (omega arith, refl)
+
+element-copy-out-p : tie.Need-element-copy-out-p Inv-loop μ-loop
+element-copy-out-p c = omega arith
+
+element-copy-out-is-ready : tie.Need-element-copy-out-is-ready Inv-loop μ-loop
+element-copy-out-is-ready c = omega arith
+
+is-ready-requires : tie.Need-is-ready-requires Inv-loop μ-loop
+is-ready-requires c κs = search needs
+
+only-if-requires : tie.Need-only-if-requires Inv-loop μ-loop
+only-if-requires c κs = search needs
+
+larger-requires : tie.Need-larger-requires Inv-loop μ-loop
+larger-requires c κs = search needs
+
+add-i : tie.Need-add-i Inv-loop μ-loop
+add-i c = omega arith
+
+loop-less : tie.Need-loop-less Inv-loop μ-loop
+loop-less c = omega arith
+
+loop-again : tie.Need-loop-again Inv-loop μ-loop
+loop-again c = (
+  omega arith,
+  largest-on (passed (eligibleAt (c .before .before .before .before .before .before .before .args .states .now) (c .before .before .before .before .before .before .before .args .priorities .now) (c .before .before .before .before .before .before .before .args .level)) (numberIn (c .before .before .before .before .before .before .before .args .priorities .now))) (c .before .before .before .before .before .before .loop .i) _
+      (rw (c .larger .ensures, c .before .only-if .ensures, c .before .before .is-ready .ensures, c .before .before .before .before .before .before .loop .inv .1)),
+)
+
+returns : tie.Need-returns Inv-loop μ-loop
+returns c = let e : c .before .loop .i ≡ c .before .before .args .tasks = omega arith in rw (← e) (c .before .loop .inv .1)
+
+pub highest-ready-spec : {M : Type 1} → statement M
+highest-ready-spec =
+    tie.close
+    (tie.spec
+    Inv-loop
+    μ-loop
+    loop-holds
+    element-copy-out-p
+    element-copy-out-is-ready
+    is-ready-requires
+    only-if-requires
+    larger-requires
+    add-i
+    loop-less
+    loop-again
+    returns)
