@@ -35,7 +35,7 @@ module _ (s : List ℕ) (h : Shape) (settings : List ℕ) (w : WellFormed s h) w
   pub deadline-is : (i : ℕ) → i < h .tasks → taskOf s i .deadline ≡ deadline (equationsOf s h settings) i
   deadline-is i l = sym (every-at (λ i. taskOf s i .deadline) (h .tasks) i 0 l)
 
-module _ (s settings ceilings v : List ℕ) (q : Query) (g : Solvable s settings ceilings v q) where
+module _ (s settings v kept : List ℕ) (q : Query) (g : Solvable s settings v kept q) where
   abbrev S : System
   S = equationsOf s (q .shape) settings
 
@@ -59,10 +59,9 @@ module _ (s settings ceilings v : List ℕ) (q : Query) (g : Solvable s settings
   side-rises a b l = table-lawful s (q .shape) settings (g .well) .rises (q .task) placed v v a b (⊑-refl v) l
 
   -- what a right side asks
-  pub asking : (t : ℕ) → t ≤ 1000000 → Asking s settings ceilings v q t
+  pub asking : (t : ℕ) → t ≤ 1000000 → Asking s settings v kept q t
   asking t l = record {
     bytes = g .bytes;
-    listed = g .listed;
     query = g .query;
     ready = record { well = g .well; sized = g .sized; most = g .most; floor = g .floor; task = g .task; length-most = l };
   }

@@ -61,15 +61,14 @@ module _ (s settings ceilings v : List ℕ) (h : Shape) (g : Listed s h ceilings
       (omega (arith, deadline-is s h settings (g .well) j l, r .run-within))
 
   -- the task at place i can be solved under it
-  pub solvable : (i : ℕ) (q : Query) → i < h .tasks → QueryIs s h settings i q → Solvable s settings ceilings v q
-  solvable i q l k =
+  pub solvable : (i : ℕ) (kept : List ℕ) (q : Query) → i < h .tasks → QueryIs s h settings i kept q → Solvable s settings v kept q
+  solvable i kept q l k =
       let sh = k .shape in
       let ti = k .task in
       record {
         well = rw sh (g .well);
         bytes = g .bytes;
-        listed = rw sh (g .ceilings-are);
-        query = subst (λ x. QueryIs s x settings (q .task) q) (sym sh) (subst (λ x. QueryIs s h settings x q) (sym ti) k);
+        query = subst (λ x. QueryIs s x settings (q .task) kept q) (sym sh) (subst (λ x. QueryIs s h settings x kept q) (sym ti) k);
         task = rw (sh, ti) l;
         sized = rw sh way-sized;
         most = rw sh way-most;
@@ -77,9 +76,9 @@ module _ (s settings ceilings v : List ℕ) (h : Shape) (g : Listed s h ceilings
       }
 
 -- what the solver replied, by place
-pub replied-at : (s settings v : List ℕ) (h : Shape) (i made allowance : ℕ) (q : Query) (r : Reply) → QueryIs s h settings i q
+pub replied-at : (s settings v kept : List ℕ) (h : Shape) (i made allowance : ℕ) (q : Query) (r : Reply) → QueryIs s h settings i kept q
     → Solved allowance (reply (equationsOf s (q .shape) settings) (q .task) v made) r → Solved allowance (reply (equationsOf s h settings) i v made) r
-replied-at s settings v h i made allowance q r k g =
+replied-at s settings v kept h i made allowance q r k g =
     subst (λ x. Solved allowance (reply (equationsOf s h settings) x v made) r) (k .task)
     (subst (λ x. Solved allowance (reply (equationsOf s x settings) (q .task) v made) r) (k .shape) g)
 

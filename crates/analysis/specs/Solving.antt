@@ -8,7 +8,7 @@ use Rattle.rounds.specs.Answer as theory
 use Rattle.rounds.specs.Solver as theory-solver
 use Rattle.table.specs.WellFormed.{taskOf, WellFormed}
 use Rattle.equations.specs.declared.Query.{Query}
-use Rattle.equations.specs.Ready.{CeilingsAre, QueryIs}
+use Rattle.equations.specs.Ready.{QueryIs}
 use Rattle.analysis.specs.declared.Answer.{Answer}
 use Rattle.analysis.specs.declared.Answer.the-variants.{Bound, Nothing}
 use Rattle.analysis.specs.declared.Reply.{Reply}
@@ -23,12 +23,11 @@ abbrev pub isBound : Answer → Bool
 isBound (Bound t) = true
 isBound Nothing = false
 
--- an accepted table of bytes with its ceilings, a task's query, a vector within a million and nowhere below C
-pub record Solvable (s settings ceilings v : List ℕ) (q : Query) : Type 0 where
+-- an accepted table of bytes, a task's query with the kept uses, a vector within a million and nowhere below C
+pub record Solvable (s settings v kept : List ℕ) (q : Query) : Type 0 where
   pub well : WellFormed s (q .shape)
   pub bytes : (j : ℕ) → getD s j 0 ≤ 255
-  pub listed : CeilingsAre s (q .shape) ceilings
-  pub query : QueryIs s (q .shape) settings (q .task) q
+  pub query : QueryIs s (q .shape) settings (q .task) kept q
   pub task : q .task < q .shape .tasks
   pub sized : length v ≡ q .shape .tasks
   pub most : (j : ℕ) → j < q .shape .tasks → getD v j 0 ≤ 1000000

@@ -11,16 +11,16 @@ use equations::Query;
 use equations::right_side;
 use table::word_at;
 
-// The task of the query under a vector.
+// The task of the query, with the uses that are kept of it, under a vector.
 pub fn solve(
     bytes: &[u8],
     settings: &[u8; 32],
-    ceilings: &[u8; 32],
     vector: &[u64],
+    kept: &[u64; 65],
     query: Query,
     budget: Budget,
 ) -> Reply
-    requires { ⌜ Solvable (now bytes) (now settings) (now ceilings) (now vector) query ⌝ }
+    requires { ⌜ Solvable (now bytes) (now settings) (now vector) (now kept) query ⌝ }
     requires { ⌜ budget .made ≤ budget .allowance ⌝ }
     ensures { λ r. ⌜ Solved (budget .allowance) (reply (systemOf (viewOf (now (bytes .entry)) (query .shape) (now (settings .entry)))) (query .task) (now (vector .entry)) (budget .made)) r ⌝ }
 {
@@ -44,7 +44,7 @@ pub fn solve(
                 spent: true,
             };
         }
-        let side = right_side(bytes, settings, ceilings, vector, query, t);
+        let side = right_side(bytes, settings, vector, kept, query, t);
         made += 1;
         if side == t {
             return Reply {

@@ -82,14 +82,15 @@ pub fn one_round(
     let allowance = stand.budget.allowance;
     let mut made = stand.budget.made;
     let mut changed = false;
+    let mut kept = [0u64; 65];
     let mut i = 0;
     while i < tasks {
-        let query = asked(bytes, shape, settings, ceilings, i);
+        let query = asked(bytes, shape, settings, ceilings, &mut kept, i);
         let reply = solve(
             bytes,
             settings,
-            ceilings,
             vector,
+            &kept,
             query,
             Budget { made, allowance },
         );

@@ -23,3 +23,7 @@ ceil-self a b h =
 -- a product of two bounded numbers
 pub product : (a b m n : ℕ) → a ≤ m → b ≤ n → a * b ≤ m * n
 product a b m n p q = mul-le-mul {n₂ = m} {m₂ = n} p q
+
+-- a job that has begun counts
+pub ceil-some : (a b : ℕ) → 1 ≤ a → 1 ≤ b → 1 ≤ ceil a b
+ceil-some a b p q = le-div-iff-mul-le {k = b} {x = 1} {y = a + (b - 1)} (omega arith) .1 (let e = one-mul b in omega arith)

@@ -6,8 +6,7 @@ pub mod Places
 mod Bounds
 mod Scanned
 mod Middle
-mod Timed
-mod Picked
-mod Passed
+mod Keeping
+mod Words
 mod Summed
 mod Sided

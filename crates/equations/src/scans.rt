@@ -4,10 +4,12 @@ ghost use Prim.Native.Nat.{_+_, _*_, _≤_, _<_, max};
 ghost use Rattle.table.specs.WellFormed.{WellFormed};
 ghost use mathlib.Core.Bool.{cond};
 ghost use lib.Dec.{leb};
-ghost use lib.ListN.{getD};
+ghost use lib.ListN.{getD, length};
 ghost use Rattle.table.specs.Fields.{wordAt};
 ghost use Rattle.equations.specs.Ready.{CeilingsAre, UsesFrom, Longest, QueryIs};
 use crate::Query;
+use crate::keeps::Span;
+use crate::keeps::keep_all;
 use crate::numbers::field;
 use crate::numbers::index;
 use crate::numbers::larger;
@@ -90,31 +92,38 @@ fn later(a: usize, b: usize) -> usize
     if a < b { b } else { a }
 }
 
-// What is worked out once of the task at a place.
+// What is worked out once of the task at a place. The uses that can block it are kept in the array, as far as its right sides look at them.
 pub fn asked(
     bytes: &[u8],
     shape: Shape,
     settings: &[u8; 32],
     ceilings: &[u8; 32],
+    kept: &mut [u64; 65],
     task: usize,
 ) -> Query
     requires { ⌜ WellFormed (now bytes) shape ⌝ }
     requires { ⌜ CeilingsAre (now bytes) shape (now ceilings) ⌝ }
     requires { ⌜ task < shape .tasks ⌝ }
-    ensures { λ r. ⌜ QueryIs (now (bytes .entry)) shape (now (settings .entry)) task r ⌝ }
+    requires { ⌜ length (now kept) ≡ 65 ⌝ }
+    ensures { λ r. ⌜ QueryIs (now (bytes .entry)) shape (now (settings .entry)) task (now (kept .exit)) r ⌝ }
 {
     let priority = byte_at(bytes, 20 * task + 1);
     let sleeps = byte_at(bytes, 20 * task + 3);
     let first = uses_from(bytes, shape, wide(priority));
     let end = uses_from(bytes, shape, wide(settings[task]) + 1);
     let extra = extra(bytes, ceilings, shape, priority, later(first, end));
+    let span = Span {
+        priority,
+        first,
+        end,
+        most: index(sleeps) + 1,
+    };
+    let count = keep_all(bytes, ceilings, shape, span, kept);
     Query {
         shape,
         task,
-        priority,
         sleeps,
-        first,
-        end,
+        kept: count,
         extra,
     }
 }

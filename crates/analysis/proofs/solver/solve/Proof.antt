@@ -10,10 +10,10 @@ use Rattle.analysis.proofs.solver.solve.Statement.{statement}
 use Rattle.analysis.proofs.solver.solve.Tie as tie
 
 abbrev Inv-loop : tie.InvT-loop
-Inv-loop bytes settings ceilings vector query at allowance deadline t₀ made₀ t made = Climbing (equationsOf bytes (query .shape) settings .side (query .task) vector) deadline allowance (reply (equationsOf bytes (query .shape) settings) (query .task) vector made₀) t made
+Inv-loop bytes settings vector kept query at allowance deadline t₀ made₀ t made = Climbing (equationsOf bytes (query .shape) settings .side (query .task) vector) deadline allowance (reply (equationsOf bytes (query .shape) settings) (query .task) vector made₀) t made
 
 abbrev μ-loop : tie.MeasureT-loop
-μ-loop bytes settings ceilings vector query at allowance deadline t₀ made₀ t made = deadline - t
+μ-loop bytes settings vector kept query at allowance deadline t₀ made₀ t made = deadline - t
 
 mul-at : tie.Need-mul-at Inv-loop μ-loop
 mul-at c = omega (arith, c .before .before .before .pre .0 .task, c .before .before .before .pre .0 .well .tasks-most)
@@ -55,7 +55,7 @@ returns c =
     let at-word-at2 = c .before .before in
     replied (reply (equationsOf (entry .args .bytes .now) (entry .args .query .shape) (entry .args .settings .now)) (entry .args .query .task)
     (entry .args .vector .now) (entry .args .budget .made)) Nothing (entry .args .budget .made) (entry .args .budget .allowance) (too-long
-    (entry .args .bytes .now) (entry .args .settings .now) (entry .args .ceilings .now) (entry .args .vector .now) (entry .args .query)
+    (entry .args .bytes .now) (entry .args .settings .now) (entry .args .vector .now) (entry .args .kept .now) (entry .args .query)
     (entry .pre .0) (at-word-at .word-at .result) (at-word-at2 .word-at2 .result) (c .before .word-at3 .result) (entry .args .budget .made)
     (at-word-at .word-at .ensures) (at-word-at2 .word-at2 .ensures) (c .before .word-at3 .ensures) (c .if1 .taken)) (entry .pre .1)
 
@@ -64,7 +64,7 @@ loop-holds c =
     let entry = c .before .before .before .before .before .before .before in
     let at-word-at = c .before .before .before in
     let at-word-at2 = c .before .before in
-    begins (entry .args .bytes .now) (entry .args .settings .now) (entry .args .ceilings .now) (entry .args .vector .now) (entry .args .query)
+    begins (entry .args .bytes .now) (entry .args .settings .now) (entry .args .vector .now) (entry .args .kept .now) (entry .args .query)
     (entry .pre .0) (at-word-at .word-at .result) (at-word-at2 .word-at2 .result) (c .before .word-at3 .result) (entry .args .budget .made)
     (entry .args .budget .allowance) (at-word-at .word-at .ensures) (at-word-at2 .word-at2 .ensures) (c .before .word-at3 .ensures) (c .if1 .left)
     (entry .pre .1)
@@ -83,12 +83,12 @@ right-side-requires : tie.Need-right-side-requires Inv-loop μ-loop
 right-side-requires c κs =
     let entry = c .before .before .before .before .before .before .before .before .before in
     let at-word-at = c .before .before .before .before .before in
-    asking (entry .args .bytes .now) (entry .args .settings .now) (entry .args .ceilings .now) (entry .args .vector .now) (entry .args .query)
+    asking (entry .args .bytes .now) (entry .args .settings .now) (entry .args .vector .now) (entry .args .kept .now) (entry .args .query)
     (entry .pre .0) (c .before .loop .t) (omega (
       arith,
       c .before .loop .inv .within,
       deadline-most (entry .args .bytes .now)
-          (entry .args .settings .now) (entry .args .ceilings .now) (entry .args .vector .now) (entry .args .query) (entry .pre .0)
+          (entry .args .settings .now) (entry .args .vector .now) (entry .args .kept .now) (entry .args .query) (entry .pre .0)
           (at-word-at .word-at .result) (at-word-at .word-at .ensures),
     ))
 
@@ -143,8 +143,7 @@ loop-again c =
     (entry .args .vector .now)) (c .before .before .before .before .before .before .before .before .word-at .result) (entry .args .budget .allowance)
     (reply (equationsOf (entry .args .bytes .now) (entry .args .query .shape) (entry .args .settings .now)) (entry .args .query .task)
     (entry .args .vector .now) (entry .args .budget .made)) (turn .loop .t) (turn .loop .made) (turn .loop .inv) (at-right-side .right-side .result)
-    (at-right-side .right-side .ensures .0) (side-rises (entry .args .bytes .now) (entry .args .settings .now) (entry .args .ceilings .now)
-    (entry .args .vector .now) (entry .args .query) (entry .pre .0)) (c .before .if3 .left) (c .if4 .left) (c .before .before .before .if2 .left)
+    (at-right-side .right-side .ensures .0) (side-rises (entry .args .bytes .now) (entry .args .settings .now) (entry .args .vector .now) (entry .args .kept .now) (entry .args .query) (entry .pre .0)) (c .before .if3 .left) (c .if4 .left) (c .before .before .before .if2 .left)
 
 pub solve-spec : {M : Type 1} → statement M
 solve-spec =

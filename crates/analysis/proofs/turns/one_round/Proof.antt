@@ -1,7 +1,8 @@
 -- `analysis::turns::one_round` meets its contract.
 use Prim.Native.Nat.{_≤_, _-_}
 use borrow.Author.Needs.{needs}
-use mathlib.Core.Path.{refl}
+use lib.ListN.{length}
+use mathlib.Core.Path.{_≡_, refl}
 use native.Mathlib.Omega.{arith}
 use Rattle.rounds.specs.RoundLoop.{turned-start, turned-length}
 use Rattle.analysis.specs.Rounding.{progress}
@@ -11,112 +12,77 @@ use Rattle.analysis.proofs.turns.one_round.Statement.{statement}
 use Rattle.analysis.proofs.turns.one_round.Tie as tie
 
 abbrev Inv-loop : tie.InvT-loop
-Inv-loop bytes settings ceilings vector₀ bounds₀ shape tasks allowance made₀ changed₀ i₀ vector bounds made changed i =
-    (i ≤ tasks) × Standing tasks (equationsOf bytes shape settings) (progress vector₀ made₀) allowance i (progress vector made) changed bounds
+Inv-loop bytes settings ceilings vector₀ bounds₀ shape tasks allowance made₀ changed₀ kept₀ i₀ vector bounds made changed kept i =
+    (i ≤ tasks) × Standing tasks (equationsOf bytes shape settings) (progress vector₀ made₀) allowance i (progress vector made) changed bounds × (length kept ≡ 65)
 
 abbrev μ-loop : tie.MeasureT-loop
-μ-loop bytes settings ceilings vector₀ bounds₀ shape tasks allowance made₀ changed₀ i₀ vector bounds made changed i = tasks - i
+μ-loop bytes settings ceilings vector₀ bounds₀ shape tasks allowance made₀ changed₀ kept₀ i₀ vector bounds made changed kept i = tasks - i
 
 loop-holds : tie.Need-loop-holds Inv-loop μ-loop
-loop-holds c =
-    let entry = c .before .before .before in (
+loop-holds c = let entry = c .before .before .before .args in
+    let g = c .before .before .before .pre in (
       omega arith,
       record {
-        turned = turned-start (equationsOf (entry .args .bytes .now) (entry .args .stand .shape) (entry .args .settings .now))
-            (progress (entry .args .vector .now) (entry .args .stand .budget .made)) (entry .args .stand .budget .allowance) (entry .pre .1 .1 .0)
-            (entry .pre .1 .0);
-        marks = entry .pre .1 .1 .1;
+        turned = turned-start (equationsOf (entry .bytes .now) (entry .stand .shape) (entry .settings .now)) (progress (entry .vector .now) (entry .stand .budget .made)) (entry .stand .budget .allowance) (g .1 .1 .0) (g .1 .0);
+        marks = g .1 .1 .1;
         marked = λ j l. absurd (omega arith);
       },
+      refl,
     )
 
 asked-requires : tie.Need-asked-requires Inv-loop μ-loop
-asked-requires c κs = (c .before .before .before .before .before .pre .0 .well, (c .before .before .before .before .before .pre .0 .ceilings-are, c .loop-test .taken))
+asked-requires c κs = (c .before .before .before .before .before .before .pre .0 .well, (c .before .before .before .before .before .before .pre .0 .ceilings-are, (c .before .loop-test .taken, c .before .before .loop .inv .2)))
 
 solve-requires : tie.Need-solve-requires Inv-loop μ-loop
-solve-requires c κs =
-    let entry = c .before .before .before .before .before .before .before in
-    let turn = c .before .before .before in (
-      solvable (entry .args .bytes .now) (entry .args .settings .now) (entry .args .ceilings .now) (turn .loop .vector) (entry .args .stand .shape)
-          (entry .pre .0) (turn .loop .inv .1 .turned .way) (turn .loop .i) (c .before .asked .result) (c .before .before .loop-test .taken)
-          (c .before .asked .ensures),
-      turn .loop .inv .1 .turned .counted,
+solve-requires c κs = let entry = c .before .before .before .before .before .before .before .before .before .args in
+    let turn = c .before .before .before .before .before .loop in (
+      solvable (entry .bytes .now) (entry .settings .now) (entry .ceilings .now) (turn .vector) (entry .stand .shape) (c .before .before .before .before .before .before .before .before .before .pre .0) (turn .inv .1 .turned .way) (turn .i) _ (c .before .before .asked .result) (c .before .before .before .before .loop-test .taken) (c .before .before .asked .ensures),
+      turn .inv .1 .turned .counted,
     )
 
 same-length : tie.Need-same-length Inv-loop μ-loop
-same-length c =
-    let entry = c .before .before .before .before .before .before .before .before .before in
-    let turn = c .before .before .before .before .before in
-    turned-length (equationsOf (entry .args .bytes .now) (entry .args .stand .shape) (entry .args .settings .now)) (progress
-    (entry .args .vector .now) (entry .args .stand .budget .made)) (entry .args .stand .budget .allowance) (turn .loop .i) (progress
-    (turn .loop .vector) (turn .loop .made)) (turn .loop .changed) (turn .loop .inv .1 .turned)
+same-length c = let entry = c .before .before .before .before .before .before .before .before .before .before .before .args in
+    let turn = c .before .before .before .before .before .before .before .loop in
+    turned-length (equationsOf (entry .bytes .now) (entry .stand .shape) (entry .settings .now)) (progress (entry .vector .now) (entry .stand .budget .made)) (entry .stand .budget .allowance) (turn .i) (progress (turn .vector) (turn .made)) (turn .changed) (turn .inv .1 .turned)
 
 returns : tie.Need-returns Inv-loop μ-loop
-returns c =
-    let entry = c .before .before .before .before .before .before .before .before .before in
-    let turn = c .before .before .before .before .before in
-    let at-asked = c .before .before .before in
-    spent-round (entry .args .bytes .now) (entry .args .settings .now) (turn .loop .vector) (entry .args .stand .shape) (entry .pre .0 .well)
-    (progress (entry .args .vector .now) (entry .args .stand .budget .made)) (entry .args .stand .budget .allowance) (turn .loop .i)
-    (turn .loop .made) (turn .loop .changed) (turn .loop .bounds) (turn .loop .inv .1) (c .before .before .before .before .loop-test .taken)
-    (c .before .solve .result) (replied-at (entry .args .bytes .now) (entry .args .settings .now) (turn .loop .vector) (entry .args .stand .shape)
-    (turn .loop .i) (turn .loop .made) (entry .args .stand .budget .allowance) (at-asked .asked .result) (c .before .solve .result)
-    (at-asked .asked .ensures) (c .before .solve .ensures)) _ refl (c .if1 .taken) _
+returns c = let entry = c .before .before .before .before .before .before .before .before .before .before .before .args in
+    let turn = c .before .before .before .before .before .before .before .loop in
+    spent-round (entry .bytes .now) (entry .settings .now) (turn .vector) (entry .stand .shape) (c .before .before .before .before .before .before .before .before .before .before .before .pre .0 .well) (progress (entry .vector .now) (entry .stand .budget .made)) (entry .stand .budget .allowance) (turn .i) (turn .made) (turn .changed) (turn .bounds) (turn .inv .1) (c .before .before .before .before .before .before .loop-test .taken) (c .before .solve .result) (replied-at (entry .bytes .now) (entry .settings .now) (turn .vector) _ (entry .stand .shape) (turn .i) (turn .made) (entry .stand .budget .allowance) (c .before .before .before .before .asked .result) (c .before .solve .result) (c .before .before .before .before .asked .ensures) (c .before .solve .ensures)) _ refl (c .if1 .taken) _
 
 is-bound-requires : tie.Need-is-bound-requires Inv-loop μ-loop
 is-bound-requires c κs = search needs
 
 element-write-bounds : tie.Need-element-write-bounds Inv-loop μ-loop
-element-write-bounds c = omega (arith, c .before .before .before .before .before .before .before .before .before .before .pre .0 .well .tasks-most)
+element-write-bounds c = omega (arith, c .before .before .before .before .before .before .before .before .before .before .before .before .pre .0 .well .tasks-most)
 
 lower-requires : tie.Need-lower-requires Inv-loop μ-loop
-lower-requires c κs =
-    let entry = c .before .before .before .before .before .before .before .before .before .before .before in
-    let turn = c .before .before .before .before .before .before .before in
-    omega (
-      arith,
-      way-sized (entry .args .bytes .now) (entry .args .settings .now) (entry .args .ceilings .now) (turn .loop .vector)
-          (entry .args .stand .shape) (entry .pre .0) (turn .loop .inv .1 .turned .way),
-    )
+lower-requires c κs = let entry = c .before .before .before .before .before .before .before .before .before .before .before .before .before .args in
+    omega (arith, way-sized (entry .bytes .now) (entry .settings .now) (entry .ceilings .now) (c .before .before .before .before .before .before .before .before .before .loop .vector) (entry .stand .shape) (c .before .before .before .before .before .before .before .before .before .before .before .before .before .pre .0) (c .before .before .before .before .before .before .before .before .before .loop .inv .1 .turned .way))
 
 add-i : tie.Need-add-i Inv-loop μ-loop
-add-i c = omega (arith, c .before .before .before .before .before .before .before .before .before .before .before .before .before .before .pre .0 .well .tasks-most)
+add-i c = omega (arith, c .before .before .before .before .before .before .before .before .before .before .before .before .before .before .before .before .pre .0 .well .tasks-most)
 
 loop-less : tie.Need-loop-less Inv-loop μ-loop
 loop-less c = omega arith
 
 loop-again : tie.Need-loop-again Inv-loop μ-loop
-loop-again c =
-    let entry = c .before .before .before .before .before .before .before .before .before .before .before .before .before .before in
-    let turn = c .before .before .before .before .before .before .before .before .before .before in
-    let at-asked = c .before .before .before .before .before .before .before .before in
-    let at-solve = c .before .before .before .before .before .before in
-    let at-is-bound = c .before .before .before .before in
-    let at-lower = c .before .before in (
+loop-again c = let entry = c .before .before .before .before .before .before .before .before .before .before .before .before .before .before .before .before .args in
+    let turn = c .before .before .before .before .before .before .before .before .before .before .before .before .loop in (
       omega arith,
-      next-turn (entry .args .bytes .now) (entry .args .settings .now) (turn .loop .vector) (entry .args .stand .shape)
-          (entry .pre .0 .well) (progress (entry .args .vector .now) (entry .args .stand .budget .made)) (entry .args .stand .budget .allowance)
-          (turn .loop .i) (turn .loop .made) (turn .loop .changed) (turn .loop .bounds) (turn .loop .inv .1)
-          (c .before .before .before .before .before .before .before .before .before .loop-test .taken) (at-solve .solve .result) (replied-at
-          (entry .args .bytes .now) (entry .args .settings .now) (turn .loop .vector) (entry .args .stand .shape) (turn .loop .i) (turn .loop .made)
-          (entry .args .stand .budget .allowance) (at-asked .asked .result) (at-solve .solve .result) (at-asked .asked .ensures) (at-solve .solve .ensures))
-          (c .before .before .before .before .before .if1 .left) (at-is-bound .is-bound .result) (at-is-bound .is-bound .ensures) (at-lower .lower .last .0)
-          (at-lower .lower .result) (at-lower .lower .ensures),
+      next-turn (entry .bytes .now) (entry .settings .now) (turn .vector) (entry .stand .shape) (c .before .before .before .before .before .before .before .before .before .before .before .before .before .before .before .before .pre .0 .well) (progress (entry .vector .now) (entry .stand .budget .made)) (entry .stand .budget .allowance) (turn .i) (turn .made) (turn .changed) (turn .bounds) (turn .inv .1) (c .before .before .before .before .before .before .before .before .before .before .before .loop-test .taken) (c .before .before .before .before .before .before .solve .result) (replied-at (entry .bytes .now) (entry .settings .now) (turn .vector) _ (entry .stand .shape) (turn .i) (turn .made) (entry .stand .budget .allowance) (c .before .before .before .before .before .before .before .before .before .asked .result) (c .before .before .before .before .before .before .solve .result) (c .before .before .before .before .before .before .before .before .before .asked .ensures) (c .before .before .before .before .before .before .solve .ensures)) (c .before .before .before .before .before .if1 .left) (c .before .before .before .before .is-bound .result) (c .before .before .before .before .is-bound .ensures) (c .before .before .lower .last .0) (c .before .before .lower .result) (c .before .before .lower .ensures),
+      c .before .before .before .before .before .before .before .before .before .asked .ensures .kept .sized,
     )
 
 same-length-2 : tie.Need-same-length-2 Inv-loop μ-loop
-same-length-2 c =
-    let entry = c .before .before .before .before .before in
-    turned-length (equationsOf (entry .args .bytes .now) (entry .args .stand .shape) (entry .args .settings .now)) (progress
-    (entry .args .vector .now) (entry .args .stand .budget .made)) (entry .args .stand .budget .allowance) (c .before .loop .i) (progress
-    (c .before .loop .vector) (c .before .loop .made)) (c .before .loop .changed) (c .before .loop .inv .1 .turned)
+same-length-2 c = let entry = c .before .before .before .before .before .args in
+    let turn = c .before .loop in
+    turned-length (equationsOf (entry .bytes .now) (entry .stand .shape) (entry .settings .now)) (progress (entry .vector .now) (entry .stand .budget .made)) (entry .stand .budget .allowance) (turn .i) (progress (turn .vector) (turn .made)) (turn .changed) (turn .inv .1 .turned)
 
 returns-2 : tie.Need-returns-2 Inv-loop μ-loop
-returns-2 c =
-    let entry = c .before .before .before .before .before in
-    done-round (entry .args .bytes .now) (entry .args .settings .now) (c .before .loop .vector) (entry .args .stand .shape) (progress
-    (entry .args .vector .now) (entry .args .stand .budget .made)) (entry .args .stand .budget .allowance) (c .before .loop .i)
-    (c .before .loop .made) (c .before .loop .changed) (c .before .loop .bounds) (entry .pre .0 .well) (c .before .loop .inv .1) (c .loop-test .left)
+returns-2 c = let entry = c .before .before .before .before .before .args in
+    let turn = c .before .loop in
+    done-round (entry .bytes .now) (entry .settings .now) (turn .vector) (entry .stand .shape) (progress (entry .vector .now) (entry .stand .budget .made)) (entry .stand .budget .allowance) (turn .i) (turn .made) (turn .changed) (turn .bounds) (c .before .before .before .before .before .pre .0 .well) (turn .inv .1) (c .loop-test .left)
 
 pub one-round-spec : {M : Type 1} → statement M
 one-round-spec =

@@ -1,92 +1,66 @@
 -- `equations::picks::two_sums` meets its contract.
-use Prim.Native.Nat.{_+_, _-_}
+use Prim.Native.Nat.{_+_, _-_, _/_, _≤_}
+use mathlib.Core.Path.{refl}
 use borrow.Author.Needs.{needs}
-use mathlib.Core.Path.{ap}
+use lib.ListN.{getD}
 use native.Mathlib.Omega.{arith}
-use Rattle.equations.specs.Picking.{lengthsOf, listed}
-use Rattle.equations.specs.declared.picks.Pick.{Pick}
-use Rattle.equations.proofs.Passed.{pick-small}
-use Rattle.equations.proofs.Summed.{Summing, summing-start, summing-small, summing-less, summing-next, summing-all, summing-end}
+use Rattle.equations.specs.Picking.{lengthsIn, timesIn}
+use Rattle.equations.proofs.Summed.{Summing, summing-start, summing-small, summing-next, summing-end}
 use Rattle.equations.proofs.picks.two_sums.Statement.{statement}
 use Rattle.equations.proofs.picks.two_sums.Tie as tie
 
 abbrev Inv-loop : tie.InvT-loop
-Inv-loop bytes ceilings vector query t x tally₀ tally = Summing (lengthsOf bytes (query .shape)) (listed bytes ceilings vector query t) (query .shape .uses) x tally
+Inv-loop bytes vector kept t x count tally₀ j₀ tally j = (j ≤ count) × Summing (lengthsIn kept) (timesIn bytes vector kept t) x j tally
 
 abbrev μ-loop : tie.MeasureT-loop
-μ-loop bytes ceilings vector query t x tally₀ tally = x + 1 - tally .taken
+μ-loop bytes vector kept t x count tally₀ j₀ tally j = count - j
 
 wide-requires : tie.Need-wide-requires Inv-loop μ-loop
 wide-requires c κs = search needs
 
 loop-holds : tie.Need-loop-holds Inv-loop μ-loop
-loop-holds c =
-    let entry = c .before .before .before in
-    summing-start (lengthsOf (entry .args .bytes .now) (entry .args .query .shape)) (listed (entry .args .bytes .now) (entry .args .ceilings .now)
-    (entry .args .vector .now) (entry .args .query) (entry .args .t)) (entry .args .query .shape .uses) (c .wide .result)
-    (λ j l. entry .pre .well .use-range j l .length-most)
-
-next-pick-requires : tie.Need-next-pick-requires Inv-loop μ-loop
-next-pick-requires c κs = (c .before .before .before .before .before .before .pre, c .before .before .loop .inv .positive)
+loop-holds c = let entry = c .before .before .before .args in
+    let g = c .before .before .before .pre in
+    (omega arith, summing-start (lengthsIn (entry .kept .now)) (timesIn (entry .bytes .now) (entry .vector .now) (entry .kept .now) (entry .t)) (c .wide .result) (entry .query .kept) (λ i k p q. omega (arith, g .falls i k p q)) (g .short))
 
 returns : tie.Need-returns Inv-loop μ-loop
-returns c =
-    let entry = c .before .before .before .before .before .before .before .before .before in
-    let at-wide = c .before .before .before .before .before .before in
-    let turn = c .before .before .before .before .before in
-    let at-next-pick = c .before .before in
-    rw (← at-wide .wide .ensures .0) (summing-all (lengthsOf (entry .args .bytes .now) (entry .args .query .shape)) (listed (entry .args .bytes .now)
-    (entry .args .ceilings .now) (entry .args .vector .now) (entry .args .query) (entry .args .t)) (entry .args .query .shape .uses)
-    (at-wide .wide .result) (λ j l. entry .pre .well .use-range j l .length-most) (turn .loop .tally) (turn .loop .inv)
-    (at-next-pick .next-pick .result) (at-next-pick .next-pick .ensures) (c .if2 .taken))
+returns c = let entry = c .before .before .before .before .before .before .before .args in
+    let g = c .before .before .before .before .before .before .before .pre in
+    let turn = c .before .before .before .loop in
+    rw (← c .before .before .before .before .wide .ensures .0) (summing-end (lengthsIn (entry .kept .now)) (timesIn (entry .bytes .now) (entry .vector .now) (entry .kept .now) (entry .t)) (c .before .before .before .before .wide .result) (entry .query .kept) (λ i k p q. omega (arith, g .falls i k p q)) (g .short) (turn .j) (turn .tally) (turn .inv .1) (turn .inv .0) (λ l. c .if1 .taken))
+
+mul-word : tie.Need-mul-word Inv-loop μ-loop
+mul-word c = omega (arith, c .before .before .before .before .before .before .before .pre .few)
+
+element-copy-out-word : tie.Need-element-copy-out-word Inv-loop μ-loop
+element-copy-out-word c = omega (arith, c .before .before .before .before .before .before .before .pre .few)
+
+times-of-requires : tie.Need-times-of-requires Inv-loop μ-loop
+times-of-requires c κs = c .before .before .before .before .before .before .before .before .pre .timed (c .before .before .before .before .loop .j) (c .before .before .before .loop-test .taken)
 
 take-requires : tie.Need-take-requires Inv-loop μ-loop
-take-requires c κs =
-    let entry = c .before .before .before .before .before .before .before .before .before in
-    let at-wide = c .before .before .before .before .before .before in
-    let turn = c .before .before .before .before .before in
-    let at-next-pick = c .before .before in
-    summing-small (lengthsOf (entry .args .bytes .now) (entry .args .query .shape)) (listed (entry .args .bytes .now) (entry .args .ceilings .now)
-    (entry .args .vector .now) (entry .args .query) (entry .args .t)) (entry .args .query .shape .uses) (at-wide .wide .result)
-    (λ j l. entry .pre .well .use-range j l .length-most) (turn .loop .tally) (turn .loop .inv) (at-next-pick .next-pick .result)
-    (at-next-pick .next-pick .ensures) (omega (arith, at-wide .wide .ensures .0, entry .pre .sleeps)) (c .before .before .before .if1 .taken)
-    (omega (
-      arith,
-      ap (λ (p : Pick). p .times) (at-next-pick .next-pick .ensures),
-      pick-small (entry .args .bytes .now) (entry .args .ceilings .now) (entry .args .vector .now) (entry .args .query) (entry .args .t)
-          (entry .pre) (turn .loop .tally .below) (entry .args .query .shape .uses) (turn .loop .inv .positive) (omega arith),
-    ))
+take-requires c κs = let entry = c .before .before .before .before .before .before .before .before .before .args in
+    let g = c .before .before .before .before .before .before .before .before .before .pre in
+    let turn = c .before .before .before .before .before .loop in
+    summing-small (lengthsIn (entry .kept .now)) (timesIn (entry .bytes .now) (entry .vector .now) (entry .kept .now) (entry .t)) (c .before .before .before .before .before .before .wide .result) (entry .query .kept) (λ i k p q. omega (arith, g .falls i k p q)) (g .short) (turn .j) (turn .tally) (turn .inv .1) (record { length = getD (entry .kept .now) (turn .j) 0 / 65536; times = c .times-of .result }) (omega (arith, c .before .before .before .before .before .before .wide .ensures .0, g .sleeps)) (c .before .before .if1 .left) (c .times-of .ensures .1) (g .short (turn .j) (c .before .before .before .before .loop-test .taken))
+
+add-j : tie.Need-add-j Inv-loop μ-loop
+add-j c = omega (arith, c .before .before .before .before .before .before .before .before .before .before .pre .few)
 
 loop-less : tie.Need-loop-less Inv-loop μ-loop
-loop-less c =
-    let entry = c .before .before .before .before .before .before .before .before .before .before in
-    let turn = c .before .before .before .before .before .before in
-    let at-next-pick = c .before .before .before in
-    rw (c .take .ensures) (summing-less (lengthsOf (entry .args .bytes .now) (entry .args .query .shape)) (listed (entry .args .bytes .now)
-    (entry .args .ceilings .now) (entry .args .vector .now) (entry .args .query) (entry .args .t)) (entry .args .query .shape .uses)
-    (c .before .before .before .before .before .before .before .wide .result) (λ j l. entry .pre .well .use-range j l .length-most)
-    (turn .loop .tally) (turn .loop .inv) (at-next-pick .next-pick .result) (at-next-pick .next-pick .ensures) (c .before .if2 .left)
-    (c .before .before .before .before .if1 .taken))
+loop-less c = omega arith
 
 loop-again : tie.Need-loop-again Inv-loop μ-loop
-loop-again c =
-    let entry = c .before .before .before .before .before .before .before .before .before .before in
-    let turn = c .before .before .before .before .before .before in
-    let at-next-pick = c .before .before .before in
-    rw (c .take .ensures) (summing-next (lengthsOf (entry .args .bytes .now) (entry .args .query .shape)) (listed (entry .args .bytes .now)
-    (entry .args .ceilings .now) (entry .args .vector .now) (entry .args .query) (entry .args .t)) (entry .args .query .shape .uses)
-    (c .before .before .before .before .before .before .before .wide .result) (λ j l. entry .pre .well .use-range j l .length-most)
-    (turn .loop .tally) (turn .loop .inv) (at-next-pick .next-pick .result) (at-next-pick .next-pick .ensures) (c .before .if2 .left)
-    (c .before .before .before .before .if1 .taken))
+loop-again c = let entry = c .before .before .before .before .before .before .before .before .before .before .args in
+    let g = c .before .before .before .before .before .before .before .before .before .before .pre in
+    let turn = c .before .before .before .before .before .before .loop in
+    (omega arith, rw (c .take .ensures) (summing-next (lengthsIn (entry .kept .now)) (timesIn (entry .bytes .now) (entry .vector .now) (entry .kept .now) (entry .t)) (c .before .before .before .before .before .before .before .wide .result) (entry .query .kept) (λ i k p q. omega (arith, g .falls i k p q)) (g .short) (turn .j) (turn .tally) (turn .inv .1) (record { length = getD (entry .kept .now) (turn .j) 0 / 65536; times = c .before .times-of .result }) (c .before .before .before .before .before .loop-test .taken) (c .before .before .before .if1 .left) refl (c .before .times-of .ensures .0)))
 
 returns-2 : tie.Need-returns-2 Inv-loop μ-loop
-returns-2 c =
-    let entry = c .before .before .before .before .before .before in
-    let at-wide = c .before .before .before in
-    let turn = c .before .before in
-    rw (← at-wide .wide .ensures .0) (summing-end (lengthsOf (entry .args .bytes .now) (entry .args .query .shape)) (listed (entry .args .bytes .now)
-    (entry .args .ceilings .now) (entry .args .vector .now) (entry .args .query) (entry .args .t)) (entry .args .query .shape .uses)
-    (at-wide .wide .result) (λ j l. entry .pre .well .use-range j l .length-most) (turn .loop .tally) (turn .loop .inv) (c .if1 .left))
+returns-2 c = let entry = c .before .before .before .before .before .args in
+    let g = c .before .before .before .before .before .pre in
+    let turn = c .before .loop in
+    rw (← c .before .before .wide .ensures .0) (summing-end (lengthsIn (entry .kept .now)) (timesIn (entry .bytes .now) (entry .vector .now) (entry .kept .now) (entry .t)) (c .before .before .wide .result) (entry .query .kept) (λ i k p q. omega (arith, g .falls i k p q)) (g .short) (turn .j) (turn .tally) (turn .inv .1) (turn .inv .0) (λ l. absurd (omega (arith, c .loop-test .left))))
 
 pub two-sums-spec : {M : Type 1} → statement M
 two-sums-spec =
@@ -96,9 +70,12 @@ two-sums-spec =
     μ-loop
     wide-requires
     loop-holds
-    next-pick-requires
     returns
+    mul-word
+    element-copy-out-word
+    times-of-requires
     take-requires
+    add-j
     loop-less
     loop-again
     returns-2)

@@ -1,7 +1,10 @@
 -- `equations::scans::asked` meets its contract.
+use Prim.Native.Nat.{_+_}
 use borrow.Author.Needs.{needs}
-use mathlib.Core.Path.{refl}
+use mathlib.Core.Path.{refl, _∙_}
+use native.Mathlib.Omega.{arith}
 use Rattle.equations.proofs.Middle.{extra-is}
+use Rattle.equations.proofs.Words.{kept-blocks}
 use Rattle.equations.proofs.scans.asked.Statement.{statement}
 use Rattle.equations.proofs.scans.asked.Tie as tie
 
@@ -47,17 +50,28 @@ later-requires c κs = search needs
 extra-requires : tie.Need-extra-requires
 extra-requires c κs = search needs
 
+index-requires : tie.Need-index-requires
+index-requires c κs = search needs
+
+add-t14 : tie.Need-add-t14
+add-t14 c = search needs
+
+keep-all-requires : tie.Need-keep-all-requires
+keep-all-requires c κs = let entry = c .before .before .before .before .before .before .before .before .before .before .before .before .args in
+    let g = c .before .before .before .before .before .before .before .before .before .before .before .before .pre in
+    (g .0, ((c .before .before .before .before .before .before .before .uses-from .ensures .within, c .before .before .before .before .uses-from2 .ensures .within, omega arith, omega (arith, c .before .index .ensures .0, c .before .before .before .before .before .before .before .before .before .byte-at2 .ensures, g .0 .task-range (entry .task) (g .1 .1 .0) .sleeps)), g .1 .1 .1))
+
 returns : tie.Need-returns
-returns c = let first = rw (c .before .before .before .before .before .before .wide .ensures .0, c .before .before .before .before .before .before .before .before .byte-at .ensures) at (c .before .before .before .before .before .uses-from .ensures) in
-    let end = rw (c .before .before .before .wide2 .ensures .0) at (c .before .before .uses-from2 .ensures) in
+returns c = let entry = c .before .before .before .before .before .before .before .before .before .before .before .before .before .args in
+    let g = c .before .before .before .before .before .before .before .before .before .before .before .before .before .pre in
+    let first = rw (c .before .before .before .before .before .before .before .before .before .wide .ensures .0, c .before .before .before .before .before .before .before .before .before .before .before .byte-at .ensures) at (c .before .before .before .before .before .before .before .before .uses-from .ensures) in
+    let end = rw (c .before .before .before .before .before .before .wide2 .ensures .0) at (c .before .before .before .before .before .uses-from2 .ensures) in
     record {
       shape = refl;
       task = refl;
-      priority = c .before .before .before .before .before .before .before .before .byte-at .ensures;
-      sleeps = c .before .before .before .before .before .before .before .byte-at2 .ensures;
-      first = first;
-      end = end;
-      extra = extra-is (c .before .before .before .before .before .before .before .before .before .before .args .bytes .now) (c .before .before .before .before .before .before .before .before .before .before .args .shape) (c .before .before .before .before .before .before .before .before .before .before .args .settings .now) (c .before .before .before .before .before .before .before .before .before .before .args .task) (c .before .before .before .before .before .uses-from .result) (c .before .before .uses-from2 .result) first end (c .before .before .before .before .before .before .before .before .before .before .args .ceilings .now) (c .extra .result) (c .before .before .before .before .before .before .before .before .before .before .pre .0) (c .before .before .before .before .before .before .before .before .before .before .pre .1 .0) (rw (c .before .later .ensures, c .before .before .before .before .before .before .before .before .byte-at .ensures) at (c .extra .ensures));
+      sleeps = c .before .before .before .before .before .before .before .before .before .before .byte-at2 .ensures;
+      kept = rw (← (c .before .before .index .ensures .0 ∙ c .before .before .before .before .before .before .before .before .before .before .byte-at2 .ensures)) (kept-blocks (entry .bytes .now) (entry .shape) (entry .settings .now) (entry .task) (entry .ceilings .now) (record { priority = c .before .before .before .before .before .before .before .before .before .before .before .byte-at .result; first = c .before .before .before .before .before .before .before .before .uses-from .result; end = c .before .before .before .before .before .uses-from2 .result; most = c .before .before .index .result + 1 }) first end (c .before .before .before .before .before .before .before .before .before .before .before .byte-at .ensures) (g .0) (g .1 .0) (c .before .before .index .result + 1) _ (c .keep-all .result) (c .keep-all .ensures));
+      extra = extra-is (entry .bytes .now) (entry .shape) (entry .settings .now) (entry .task) (c .before .before .before .before .before .before .before .before .uses-from .result) (c .before .before .before .before .before .uses-from2 .result) first end (entry .ceilings .now) (c .before .before .before .extra .result) (g .0) (g .1 .0) (rw (c .before .before .before .before .later .ensures, c .before .before .before .before .before .before .before .before .before .before .before .byte-at .ensures) at (c .before .before .before .extra .ensures));
     }
 
 pub asked-spec : {M : Type 1} → statement M
@@ -78,4 +92,7 @@ asked-spec =
     uses-from-requires-2
     later-requires
     extra-requires
+    index-requires
+    add-t14
+    keep-all-requires
     returns)
