@@ -45,13 +45,21 @@ fn cut_word(bytes: &[u8], at: usize) -> u32
     )
 }
 
+// The word at a place where four bytes are there, low byte first.
+pub fn whole_word(bytes: &[u8], at: usize) -> u32
+    requires { ⌜ at + 4 ≤ length (now bytes) ⌝ }
+    ensures { λ r. ⌜ r ≡ wordAt (now (bytes .entry)) at ⌝ }
+{
+    join(bytes[at], bytes[at + 1], bytes[at + 2], bytes[at + 3])
+}
+
 // The word at a place: four bytes, low byte first.
 pub fn word_at(bytes: &[u8], at: usize) -> u32
     ensures { λ r. ⌜ r ≡ wordAt (now (bytes .entry)) at ⌝ }
 {
     if at < bytes.len() {
         if 4 <= bytes.len() - at {
-            return join(bytes[at], bytes[at + 1], bytes[at + 2], bytes[at + 3]);
+            return whole_word(bytes, at);
         }
     }
     cut_word(bytes, at)

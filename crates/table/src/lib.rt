@@ -13,6 +13,7 @@ pub use fields::no_task;
 pub use fields::no_use;
 pub use fields::task_at;
 pub use fields::use_at;
+pub use fields::whole_word;
 pub use fields::word_at;
 pub use rules::place_of;
 
