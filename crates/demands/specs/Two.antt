@@ -7,12 +7,14 @@ use mathlib.Core.Logic.{_↔_}
 use mathlib.Core.Bool.{true}
 use mathlib.Core.List.{List, _++_}
 use lib.ListN.{getD, length, take, drop}
+use native.Mathlib.Omega.{arith}
 use Rattle.table.specs.declared.Shape.{Shape}
 use Rattle.table.specs.declared.Reading.the-variants.{Accepted}
 use Rattle.table.specs.Reading.{readTable}
 use Rattle.table.specs.WellFormed.{WellFormed}
 use Rattle.table.proofs.Accepted.{well-formed}
 use Rattle.table.proofs.Complete.{complete}
+use Rattle.table.proofs.Decided as decided
 use Rattle.rounds.specs.Answer as rounds
 use Rattle.rounds.specs.Answer.{Right}
 use Rattle.rounds.specs.System.{deadline, Final}
@@ -30,6 +32,8 @@ use Rattle.analysis.specs.Answering.{answerAt, toldOf}
 use Rattle.analysis.proofs.Right as right
 use Rattle.analysis.proofs.Replies as replies
 use Rattle.analysis.proofs.Replies.{totalOf, SomeNone}
+use Rattle.lines.specs.Lines.{printed}
+use Rattle.lines.proofs.Fronts.{front-printed}
 use Rattle.protocol.specs.Running.{aboveSystem}
 use Rattle.protocol.specs.Checks.{Call}
 use Rattle.protocol.specs.Step.{step}
@@ -86,6 +90,10 @@ call-follows Z c = replied-follows Z c
 -- a table is accepted exactly when it is well formed
 pub accepted-exactly : (s : List ℕ) (h : Shape) → (readTable s ≡ Accepted h) ↔ WellFormed s h
 accepted-exactly s h = (well-formed s h, complete s h)
+
+-- 8,192 bytes decide any input, and what the bounds program prints of it
+pub front-decides : (s : List ℕ) (allowance : ℕ) → (readTable (take 8192 s) ≡ readTable s) × (printed (take 8192 s) allowance ≡ printed s allowance)
+front-decides s allowance = (decided.front-decides s 8192 (omega arith), front-printed s allowance)
 
 -- bytes that are accepted, loaded and written are the same bytes, and the rest of the buffer stays
 pub bytes-again : (s : List ℕ) → ((i : ℕ) → getD s i 0 < 256) → (h : Shape) → readTable s ≡ Accepted h → (out : List ℕ) → length s ≤ length out

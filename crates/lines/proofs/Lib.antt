@@ -1,2 +1,3 @@
 mod Texts
 mod Puts
+pub mod Fronts

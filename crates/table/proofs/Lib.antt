@@ -5,3 +5,4 @@ pub mod Accepted
 pub mod Complete
 pub mod Laid
 mod Parts
+pub mod Decided

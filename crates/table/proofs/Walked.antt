@@ -58,6 +58,33 @@ module _ (h : Shape) where
   ends false false true x y z p q = inr (inr (refl, q))
   ends false false false x y z p q = absurd (impossible cc)
 
+-- ---- a step that goes on is past its record
+
+module _ (s : List ℕ) (w n : Walk) where
+  task-on : taskStep s w ≡ Next n → w .at < n .at
+  unfolding taskStep
+  task-on e =
+      let r = passed n (taskRule w (taskAt s (w .at))) (w .at) _ (past n (ltb (length s - w .at) 20) _ _ e .1) in
+      subst (λ (u : Walk). w .at < u .at) (r .1) (omega arith)
+
+  use-on : useStep s w ≡ Next n → w .at < n .at
+  unfolding useStep
+  use-on e =
+      let k = useRule w (useAt s (w .at)) (userAt s w) (wordAt s (20 * userAt s w + 4)) in
+      let r = passed n k (w .at) _ (past n (ltb (length s - w .at) 8) _ _ e .1) in
+      subst (λ (u : Walk). w .at < u .at) (r .1) (omega arith)
+
+  end-never : {G : Type 0} → endStep s w ≡ Next n → G
+  unfolding endStep
+  end-never e = let z = past n (ltb 1 (length s - w .at)) _ _ (past n (eqb (w .tasks) 0) _ _ e .1) .1 in absurd (impossible cc)
+
+  pub step-on : stepAt s w ≡ Next n → w .at < n .at
+  unfolding stepAt
+  step-on e =
+      let k = getD s (w .at) 0 in
+      ⊎-elim (λ q. task-on (q .1)) (⊎-elim (λ q. use-on (q .1)) end-never)
+      (kinds n (eqb k 1) (eqb k 2) (eqb k 3) (taskStep s w) (useStep s w) (endStep s w) _ (past n (leb (length s) (w .at)) _ _ e .1))
+
 -- ---- the induction
 
 -- the walk at the end record of a table with the shape h
@@ -90,15 +117,11 @@ module _ (s : List ℕ) (P : Walk → Type 0)
         let r = passed n (useRule w (useAt s (w .at)) (userAt s w) (wordAt s (20 * userAt s w + 4))) (w .at) _ (q .1) in
         subst P (r .1) (on-use w p k (omega arith) (r .0))
 
-    never-end : {G : Type 0} (n : Walk) → endStep s w ≡ Next n → G
-    unfolding endStep
-    never-end n e = let z = past n (ltb 1 (length s - w .at)) _ _ (past n (eqb (w .tasks) 0) _ _ e .1) .1 in absurd (impossible cc)
-
-    step-kept : (n : Walk) → stepAt s w ≡ Next n → P n
+    pub step-kept : (n : Walk) → stepAt s w ≡ Next n → P n
     unfolding stepAt
     step-kept n e =
         let k = getD s (w .at) 0 in
-        ⊎-elim (λ q. task-kept n (eqb-true k 1 (q .0)) (q .1)) (⊎-elim (λ q. use-kept n (eqb-true k 2 (q .0)) (q .1)) (never-end n))
+        ⊎-elim (λ q. task-kept n (eqb-true k 1 (q .0)) (q .1)) (⊎-elim (λ q. use-kept n (eqb-true k 2 (q .0)) (q .1)) (end-never s w n))
         (kinds n (eqb k 1) (eqb k 2) (eqb k 3) (taskStep s w) (useStep s w) (endStep s w) _ (past n (leb (length s) (w .at)) _ _ e .1))
 
     module _ (h : Shape) where
