@@ -1,15 +1,15 @@
 -- Laws of the scans over a table's uses.
-use Prim.Native.Nat.{ℕ, _+_, max, _≤_, _<_}
+use Prim.Native.Nat.{ℕ, _+_, _-_, _/_, max, _≤_, _<_}
 use mathlib.Core.Path.{_≡_, refl, sym, ap, _∙_}
-use mathlib.Core.Bool.{cond}
+use mathlib.Core.Bool.{Bool, cond}
 use mathlib.Core.List.{List}
 use native.Mathlib.Numerals.{add-one}
-use native.Mathlib.Decide.{ℕ-discrete}
+use native.Mathlib.Decide.{ℕ-discrete, decLt}
 use native.Mathlib.Omega.{arith}
-use lib.Dec.{eqb}
+use lib.Dec.{eqb, ltb}
 use lib.ListN.{getD, length, set}
 use lib.Seq.{getD-set-same, getD-set-other}
-use borrow.Author.Tests.{eq-eqb, ne-eqb}
+use borrow.Author.Tests.{eq-eqb, ne-eqb, lt-ltb, le-ltb}
 use Rattle.searches.specs.Searches.{largest}
 use Rattle.searches.proofs.Searching.{largest-more}
 use Rattle.table.specs.declared.Shape.{Shape}
@@ -69,13 +69,44 @@ uses-fall s h w j k l m = go (ℕ-discrete j k) (ℕ-discrete (user j) (user k))
           w .falling (user j) (user k) (omega (arith, w .in-order j k (omega arith) m)) (w .owned k m),
         )
 
--- where the first r uses have at least the priority p and use r hasn't, none after it has
-pub uses-from : (s : List ℕ) (h : Shape) → WellFormed s h → (p r : ℕ) → r ≤ h .uses → ((k : ℕ) → k < r → p ≤ useOf s (h .«uses_at») k .priority)
-    → (r < h .uses → useOf s (h .«uses_at») r .priority < p) → UsesFrom s h p r
-uses-from s h w p r l before here = record {
-  within = l;
-  before = before;
-  after = λ k a b. omega (arith, uses-fall s h w r k a b, here (omega arith));
+-- what is known between halves: the first uses have at least the priority p, and those after so many more haven't
+pub record Seeking (s : List ℕ) (start n p low size : ℕ) : Type 0 where
+  pub within : low + size ≤ n
+  pub before : (k : ℕ) → k < low → p ≤ useOf s start k .priority
+  pub after : (k : ℕ) → low + size ≤ k → k < n → useOf s start k .priority < p
+
+-- nothing is known yet
+pub seeking-start : (s : List ℕ) (h : Shape) (p : ℕ) → Seeking s (h .«uses_at») (h .uses) p 0 (h .uses)
+seeking-start s h p = record { within = omega arith; before = λ k l. absurd (omega arith); after = λ k a b. absurd (omega arith) }
+
+-- one half less
+pub seeking-next : (s : List ℕ) (h : Shape) → WellFormed s h → (p low size : ℕ) → Seeking s (h .«uses_at») (h .uses) p low size → 0 < size → (r : ℕ)
+    → r ≡ cond (ltb (useOf s (h .«uses_at») (low + (size + 1) / 2 - 1) .priority) p) low (low + (size + 1) / 2) → Seeking s (h .«uses_at») (h .uses) p r (size - (size + 1) / 2)
+seeking-next s h w p low size g some r e = go (decLt (useOf s (h .«uses_at») (low + (size + 1) / 2 - 1) .priority) p)
+  where
+    go : Dec (useOf s (h .«uses_at») (low + (size + 1) / 2 - 1) .priority < p) → Seeking s (h .«uses_at») (h .uses) p r (size - (size + 1) / 2)
+    go (yes b) =
+        let z : r ≡ low = e ∙ ap (λ (t : Bool). cond t low (low + (size + 1) / 2)) (lt-ltb (useOf s (h .«uses_at») (low + (size + 1) / 2 - 1) .priority) p b) in
+        record {
+          within = omega (arith, g .within);
+          before = λ k l. g .before k (omega arith);
+          after = λ k l m. omega (arith, uses-fall s h w (low + (size + 1) / 2 - 1) k (omega arith) m);
+        }
+    go (no b) =
+        let z : r ≡ low + (size + 1) / 2
+        = e ∙ ap (λ (t : Bool). cond t low (low + (size + 1) / 2)) (le-ltb (useOf s (h .«uses_at») (low + (size + 1) / 2 - 1) .priority) p (omega arith)) in
+        record {
+          within = omega (arith, g .within);
+          before = λ k l. omega (arith, uses-fall s h w k (low + (size + 1) / 2 - 1) (omega arith) (omega (arith, g .within)));
+          after = λ k l m. g .after k (omega arith) m;
+        }
+
+-- nothing is left to look at
+pub seeking-end : (s : List ℕ) (h : Shape) (p low size : ℕ) → Seeking s (h .«uses_at») (h .uses) p low size → size ≤ 0 → UsesFrom s h p low
+seeking-end s h p low size g none = record {
+  within = omega (arith, g .within);
+  before = g .before;
+  after = λ k a b. g .after k (omega arith) b;
 }
 
 -- ---- the longest

@@ -80,6 +80,7 @@ module _ (s settings v kept : List ℕ) (q : Query) (t : ℕ) (g : Asking s sett
         record {
           place = omega (arith, g .ready .sized);
           place-most = omega (arith, g .ready .well .tasks-most);
+          within = omega (arith, g .ready .well .whole, g .ready .well .start);
           small = omega (arith, g .ready .most (getD kept i 0 % 256) m, g .ready .length-most);
           period = omega arith;
           period-most = b .period;

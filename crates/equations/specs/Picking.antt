@@ -1,9 +1,8 @@
 -- How the code finds Σ(X) and Σ(X + 1): it takes the kept uses one after the other, by falling length. For private functions: no promise to a caller.
 use Prim.Native.Nat.{ℕ, _+_, _-_, _*_, _/_, _%_, min, _≤_, _<_}
-use mathlib.Core.Path.{_≡_}
 use mathlib.Core.List.{List}
 use lib.ListN.{getD, length}
-use Rattle.table.specs.WellFormed.{taskOf, WellFormed}
+use Rattle.table.specs.WellFormed.{taskOf}
 use Rattle.equations.specs.declared.Query.{Query}
 use Rattle.equations.specs.declared.picks.Pick.{Pick}
 use Rattle.equations.specs.declared.picks.Tally.{Tally}
@@ -37,10 +36,11 @@ sumsOf s v kept q t =
     let bag = bagTo (q .kept) (lengthsIn kept) (timesIn s v kept t) in
     record { less = sumOfLargest (q .sleeps) bag; more = sumOfLargest (q .sleeps + 1) bag }
 
--- a word whose task has a value and a period, both small
+-- a word whose task is in the table and has a value and a period, both small
 pub record Timed (s v : List ℕ) (t w : ℕ) : Type 0 where
   pub place : w % 256 < length v
   pub place-most : w % 256 < 32
+  pub within : 20 * (w % 256) + 20 ≤ length s
   pub small : t + getD v (w % 256) 0 ≤ 2000000
   pub period : 1 ≤ taskOf s (w % 256) .period
   pub period-most : taskOf s (w % 256) .period ≤ 1000000

@@ -1,7 +1,6 @@
 // What higher tasks add to a right side.
 ghost use mathlib.Core.Path.{_≡_};
 ghost use Prim.Native.Nat.{_+_, _-_, _*_, _≤_, _<_};
-ghost use lib.ListN.{length};
 ghost use Rattle.equations.specs.Counting.{ceil};
 ghost use Rattle.equations.specs.View.{viewOf};
 ghost use Rattle.equations.specs.Equations.{addition, additions};

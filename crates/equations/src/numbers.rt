@@ -1,6 +1,7 @@
 // Arithmetic that the definitions have and the language hasn't.
 ghost use mathlib.Core.Path.{_≡_};
-ghost use Prim.Native.Nat.{_≤_, _<_, max, min};
+ghost use Prim.Native.Nat.{_+_, _≤_, _<_, max, min};
+ghost use lib.ListN.{length};
 ghost use Rattle.table.specs.Fields.{wordAt};
 ghost use Rattle.equations.specs.Counting.{ceil};
 
@@ -47,9 +48,10 @@ pub fn index(byte: u8) -> usize
     byte as usize
 }
 
-// A wide field of a record, as a number to compute with.
+// A wide field of a record that is all there, as a number to compute with.
 pub fn field(bytes: &[u8], at: usize) -> u64
+    requires { ⌜ at + 4 ≤ length (now bytes) ⌝ }
     ensures { λ r. ⌜ r ≡ wordAt (now (bytes .entry)) at ⌝ }
 {
-    table::word_at(bytes, at) as u64
+    table::whole_word(bytes, at) as u64
 }

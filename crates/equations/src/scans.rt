@@ -1,9 +1,9 @@
 // What is worked out of a table, or of a task, once.
 ghost use mathlib.Core.Path.{_≡_};
-ghost use Prim.Native.Nat.{_+_, _*_, _≤_, _<_, max};
+ghost use Prim.Native.Nat.{_+_, _-_, _*_, _≤_, _<_, max};
 ghost use Rattle.table.specs.WellFormed.{WellFormed};
 ghost use mathlib.Core.Bool.{cond};
-ghost use lib.Dec.{leb};
+ghost use lib.Dec.{ltb, leb};
 ghost use lib.ListN.{getD, length};
 ghost use Rattle.table.specs.Fields.{wordAt};
 ghost use Rattle.equations.specs.Ready.{CeilingsAre, UsesFrom, Longest, QueryIs};
@@ -36,26 +36,36 @@ pub fn ceilings(bytes: &[u8], shape: Shape) -> [u8; 32]
     found
 }
 
-// How many uses are of tasks with at least this priority: they stand first.
+// A number of uses, with so many more where the last of these has at least a priority.
+fn beyond(bytes: &[u8], start: usize, least: u64, low: usize, more: usize) -> usize
+    requires { ⌜ (start ≤ 640) × (1 ≤ more) × (low + more ≤ 512) ⌝ }
+    ensures { λ r. ⌜ r ≡ cond (ltb (getD (now (bytes .entry)) (start + 8 * (low + more - 1) + 1) 0) least) low (low + more) ⌝ }
+{
+    if wide(byte_at(bytes, start + 8 * (low + more - 1) + 1)) < least {
+        return low;
+    }
+    low + more
+}
+
+// How many uses are of tasks with at least this priority: they stand first. Found by halves.
 fn uses_from(bytes: &[u8], shape: Shape, least: u64) -> usize
     requires { ⌜ WellFormed (now bytes) shape ⌝ }
     ensures { λ r. ⌜ UsesFrom (now (bytes .entry)) shape least r ⌝ }
 {
     let start = shape.uses_at;
-    let uses = shape.uses;
-    let mut k = 0;
-    while k < uses {
-        if wide(byte_at(bytes, start + 8 * k + 1)) < least {
-            return k;
-        }
-        k += 1;
+    let mut low = 0;
+    let mut size = shape.uses;
+    while 0 < size {
+        let half = (size + 1) / 2;
+        low = beyond(bytes, start, least, low, half);
+        size -= half;
     }
-    k
+    low
 }
 
 // The length of the use at a place, where its resource's ceiling is not below the priority, else 0.
 fn reaching_length(bytes: &[u8], ceilings: &[u8; 32], at: usize, priority: u8) -> u64
-    requires { ⌜ (at ≤ 4736) × (getD (now bytes) (at + 2) 0 ≤ 16) ⌝ }
+    requires { ⌜ (at + 8 ≤ length (now bytes)) × (getD (now bytes) (at + 2) 0 ≤ 16) ⌝ }
     ensures { λ r. ⌜ r ≡ cond (leb priority (getD (now (ceilings .entry)) (getD (now (bytes .entry)) (at + 2) 0) 0)) (wordAt (now (bytes .entry)) (at + 4)) 0 ⌝ }
 {
     let resource = index(byte_at(bytes, at + 2));

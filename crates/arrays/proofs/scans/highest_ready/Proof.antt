@@ -44,11 +44,15 @@ loop-less : tie.Need-loop-less Inv-loop μ-loop
 loop-less c = omega arith
 
 loop-again : tie.Need-loop-again Inv-loop μ-loop
-loop-again c = (
-  omega arith,
-  largest-on (passed (eligibleAt (c .before .before .before .before .before .before .before .args .states .now) (c .before .before .before .before .before .before .before .args .priorities .now) (c .before .before .before .before .before .before .before .args .level)) (numberIn (c .before .before .before .before .before .before .before .args .priorities .now))) (c .before .before .before .before .before .before .loop .i) _
-      (rw (c .larger .ensures, c .before .only-if .ensures, c .before .before .is-ready .ensures, c .before .before .before .before .before .before .loop .inv .1)),
-)
+loop-again c =
+    let entry = c .before .before .before .before .before .before .before in
+    let at-loop = c .before .before .before .before .before .before in
+    let at-is-ready = c .before .before in (
+      omega arith,
+      largest-on (passed (eligibleAt (entry .args .states .now) (entry .args .priorities .now) (entry .args .level)) (numberIn
+          (entry .args .priorities .now))) (at-loop .loop .i) _
+          (rw (c .larger .ensures, c .before .only-if .ensures, at-is-ready .is-ready .ensures, at-loop .loop .inv .1)),
+    )
 
 returns : tie.Need-returns Inv-loop μ-loop
 returns c = let e : c .before .loop .i ≡ c .before .before .args .tasks = omega arith in rw (← e) (c .before .loop .inv .1)

@@ -45,11 +45,20 @@ is-ready-requires : tie.Need-is-ready-requires Inv-loop μ-loop
 is-ready-requires c κs = search needs
 
 returns : tie.Need-returns Inv-loop μ-loop
-returns c = let found = running-found (c .before .before .before .before .before .before .before .before .args .states .now) (c .before .before .before .before .before .before .before .before .args .started .now) (c .before .before .before .before .before .before .before .before .args .settings .now) (c .before .before .before .before .before .before .before .before .args .priorities .now) (c .before .before .before .before .before .before .before .before .args .tasks)
-    (c .before .before .before .before .before .before .before .system-priority .result) (c .before .before .before .before .before .before .highest-ready .result) (c .before .before .before .before .before .before .before .system-priority .ensures) (c .before .before .before .before .before .before .highest-ready .ensures) in
-    rw (lt-ltb (c .before .before .before .before .before .loop .i) 32 (omega arith))
-    (sym (first-here (leads (c .before .before .before .before .before .before .before .before .args .states .now) (c .before .before .before .before .before .before .before .before .args .priorities .now) (c .before .before .before .before .before .before .before .system-priority .result) (c .before .before .before .before .before .before .highest-ready .result)) (c .before .before .before .before .before .loop .i)
-    (c .before .before .before .before .before .before .before .before .args .tasks) (c .before .before .before .before .before .loop .inv .1) (rw (← c .before .is-ready .ensures) (c .if1 .taken)) (c .before .before .before .before .loop-test .taken)) ∙ found)
+returns c =
+    let entry = c .before .before .before .before .before .before .before .before in
+    let at-system-priority = c .before .before .before .before .before .before .before in
+    let at-highest-ready = c .before .before .before .before .before .before in
+    let at-loop = c .before .before .before .before .before in
+    let at-loop-test = c .before .before .before .before in
+    let found = running-found (entry .args .states .now) (entry .args .started .now) (entry .args .settings .now) (entry .args .priorities .now)
+    (entry .args .tasks)
+    (at-system-priority .system-priority .result) (at-highest-ready .highest-ready .result) (at-system-priority .system-priority .ensures)
+    (at-highest-ready .highest-ready .ensures) in
+    rw (lt-ltb (at-loop .loop .i) 32 (omega arith))
+    (sym (first-here (leads (entry .args .states .now) (entry .args .priorities .now) (at-system-priority .system-priority .result)
+    (at-highest-ready .highest-ready .result)) (at-loop .loop .i)
+    (entry .args .tasks) (at-loop .loop .inv .1) (rw (← c .before .is-ready .ensures) (c .if1 .taken)) (at-loop-test .loop-test .taken)) ∙ found)
 
 add-i : tie.Need-add-i Inv-loop μ-loop
 add-i c = omega arith
@@ -58,17 +67,29 @@ loop-less : tie.Need-loop-less Inv-loop μ-loop
 loop-less c = omega arith
 
 loop-again : tie.Need-loop-again Inv-loop μ-loop
-loop-again c = (
-  omega arith,
-  first-on (leads (c .before .before .before .before .before .before .before .before .args .states .now) (c .before .before .before .before .before .before .before .before .args .priorities .now) (c .before .before .before .before .before .before .before .system-priority .result) (c .before .before .before .before .before .before .highest-ready .result)) (c .before .before .before .before .before .loop .i) (c .before .before .before .before .before .loop .inv .1)
-      (rw (← c .before .is-ready .ensures) (c .if1 .left)),
-)
+loop-again c =
+    let entry = c .before .before .before .before .before .before .before .before in
+    let at-system-priority = c .before .before .before .before .before .before .before in
+    let at-highest-ready = c .before .before .before .before .before .before in
+    let at-loop = c .before .before .before .before .before in (
+      omega arith,
+      first-on (leads (entry .args .states .now) (entry .args .priorities .now) (at-system-priority .system-priority .result)
+          (at-highest-ready .highest-ready .result)) (at-loop .loop .i) (at-loop .loop .inv .1)
+          (rw (← c .before .is-ready .ensures) (c .if1 .left)),
+    )
 
 returns-2 : tie.Need-returns-2 Inv-loop μ-loop
-returns-2 c = let e : c .before .loop .i ≡ c .before .before .before .before .args .tasks = omega arith in
-    sym (c .before .loop .inv .1) ∙ ap (first (leads (c .before .before .before .before .args .states .now) (c .before .before .before .before .args .priorities .now) (c .before .before .before .system-priority .result) (c .before .before .highest-ready .result))) e
-    ∙ running-found (c .before .before .before .before .args .states .now) (c .before .before .before .before .args .started .now) (c .before .before .before .before .args .settings .now) (c .before .before .before .before .args .priorities .now) (c .before .before .before .before .args .tasks)
-    (c .before .before .before .system-priority .result) (c .before .before .highest-ready .result) (c .before .before .before .system-priority .ensures) (c .before .before .highest-ready .ensures)
+returns-2 c =
+    let entry = c .before .before .before .before in
+    let at-system-priority = c .before .before .before in
+    let at-highest-ready = c .before .before in
+    let e : c .before .loop .i ≡ entry .args .tasks = omega arith in
+    sym (c .before .loop .inv .1) ∙ ap (first (leads (entry .args .states .now) (entry .args .priorities .now)
+    (at-system-priority .system-priority .result) (at-highest-ready .highest-ready .result))) e
+    ∙ running-found (entry .args .states .now) (entry .args .started .now) (entry .args .settings .now) (entry .args .priorities .now)
+    (entry .args .tasks)
+    (at-system-priority .system-priority .result) (at-highest-ready .highest-ready .result) (at-system-priority .system-priority .ensures)
+    (at-highest-ready .highest-ready .ensures)
 
 pub running-place-spec : {M : Type 1} → statement M
 running-place-spec =

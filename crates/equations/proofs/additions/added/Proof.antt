@@ -13,7 +13,10 @@ add-field : tie.Need-add-field
 add-field c = search needs
 
 field-requires : tie.Need-field-requires
-field-requires c κs = search needs
+field-requires c κs =
+    let g = c .before .before .pre .0 .well in
+    let entry = c .before .before in
+    omega (arith, g .whole, g .start, entry .pre .0 .task, entry .pre .1)
 
 mul-field-2 : tie.Need-mul-field-2
 mul-field-2 c = search needs
@@ -22,7 +25,10 @@ add-field-2 : tie.Need-add-field-2
 add-field-2 c = search needs
 
 field-requires-2 : tie.Need-field-requires-2
-field-requires-2 c κs = search needs
+field-requires-2 c κs =
+    let g = c .before .before .before .pre .0 .well in
+    let entry = c .before .before .before in
+    omega (arith, g .whole, g .start, entry .pre .0 .task, entry .pre .1)
 
 mul-byte-at : tie.Need-mul-byte-at
 mul-byte-at c = search needs
@@ -43,7 +49,10 @@ add-field-3 : tie.Need-add-field-3
 add-field-3 c = search needs
 
 field-requires-3 : tie.Need-field-requires-3
-field-requires-3 c κs = search needs
+field-requires-3 c κs =
+    let g = c .before .before .before .before .before .before .before .before .pre .0 .well in
+    let entry = c .before .before .before .before .before .before .before .before in
+    omega (arith, g .whole, g .start, entry .pre .0 .task, entry .pre .1)
 
 charged-requires : tie.Need-charged-requires
 charged-requires c κs =
@@ -76,12 +85,16 @@ delayed-requires c κs =
     omega (arith, b .run, b .period, b .period-most, b .value, b .floor, c .before .before .before .before .before .before .field .ensures, c .before .before .before .before .before .field2 .ensures, c .before .before .before .before .before .before .before .before .before .pre .0 .length-most)
 
 returns-2 : tie.Need-returns-2
-returns-2 c = (
-  rw (lt-leb _ _ (rw (c .before .before .before .before .byte-at .ensures) at (c .before .before .if1 .left))) (rw
-      (c .before .before .before .before .before .before .before .field .ensures, c .before .before .before .before .before .before .field2 .ensures) at
-      (c .delayed .ensures .0)),
-  c .delayed .ensures .1,
-)
+returns-2 c =
+    let at-field = c .before .before .before .before .before .before .before in
+    let at-field2 = c .before .before .before .before .before .before in
+    let at-byte-at = c .before .before .before .before in
+    let at-if1 = c .before .before in (
+      rw (lt-leb _ _ (rw (at-byte-at .byte-at .ensures) at (at-if1 .if1 .left))) (rw
+          (at-field .field .ensures, at-field2 .field2 .ensures) at
+          (c .delayed .ensures .0)),
+      c .delayed .ensures .1,
+    )
 
 pub added-spec : {M : Type 1} → statement M
 added-spec =

@@ -26,19 +26,41 @@ add-field : tie.Need-add-field
 add-field c = search needs
 
 field-requires : tie.Need-field-requires
-field-requires c κs = search needs
+field-requires c κs = omega (arith, c .before .before .before .pre .within)
 
 ceil-div-requires : tie.Need-ceil-div-requires
 ceil-div-requires c κs = search needs
 
 mul-result : tie.Need-mul-result
-mul-result c = omega (arith, product (c .before .before .before .before .before .args .word / 256 % 256) (c .ceil-div .result) 255 2000000 (omega arith) (omega (arith, c .ceil-div .ensures, ceil-self (c .before .before .before .before .before .args .t + getD (c .before .before .before .before .before .args .vector .now) (c .before .before .before .before .before .args .word % 256) 0) (c .before .field .result) (omega (arith, c .before .before .before .before .before .pre .period, c .before .field .ensures)), c .before .before .before .before .before .pre .small)))
+mul-result c =
+    let entry = c .before .before .before .before .before in
+    omega (
+      arith,
+      product (entry .args .word / 256 % 256) (c .ceil-div .result) 255 2000000 (omega arith) (omega (
+        arith,
+        c .ceil-div .ensures,
+        ceil-self (entry .args .t + getD (entry .args .vector .now) (entry .args .word % 256) 0)
+            (c .before .field .result) (omega (arith, entry .pre .period, c .before .field .ensures)),
+        entry .pre .small,
+      )),
+    )
 
 returns : tie.Need-returns
 unfolding timesOf
-returns c = let a = c .before .before .before .before .before .args in
-    let many = product (c .before .before .before .before .before .args .word / 256 % 256) (c .ceil-div .result) 255 2000000 (omega arith) (omega (arith, c .ceil-div .ensures, ceil-self (c .before .before .before .before .before .args .t + getD (c .before .before .before .before .before .args .vector .now) (c .before .before .before .before .before .args .word % 256) 0) (c .before .field .result) (omega (arith, c .before .before .before .before .before .pre .period, c .before .field .ensures)), c .before .before .before .before .before .pre .small)) in
-    (ap (λ (n : ℕ). a .word / 256 % 256 * n) (c .ceil-div .ensures ∙ ap (ceil (a .t + getD (a .vector .now) (a .word % 256) 0)) (c .before .field .ensures)), omega arith)
+returns c =
+    let entry = c .before .before .before .before .before in
+    let a = entry .args in
+    let many = product (entry .args .word / 256 % 256) (c .ceil-div .result) 255 2000000 (omega arith) (omega (
+      arith,
+      c .ceil-div .ensures,
+      ceil-self (entry .args .t + getD (entry .args .vector .now) (entry .args .word % 256) 0)
+          (c .before .field .result) (omega (arith, entry .pre .period, c .before .field .ensures)),
+      entry .pre .small,
+    )) in (
+      ap (λ (n : ℕ). a .word / 256 % 256 * n) (c .ceil-div .ensures ∙ ap (ceil (a .t + getD (a .vector .now) (a .word % 256) 0))
+          (c .before .field .ensures)),
+      omega arith,
+    )
 
 pub times-of-spec : {M : Type 1} → statement M
 times-of-spec =

@@ -57,21 +57,57 @@ add-t14 : tie.Need-add-t14
 add-t14 c = search needs
 
 keep-all-requires : tie.Need-keep-all-requires
-keep-all-requires c κs = let entry = c .before .before .before .before .before .before .before .before .before .before .before .before .args in
+keep-all-requires c κs =
+    let entry = c .before .before .before .before .before .before .before .before .before .before .before .before .args in
     let g = c .before .before .before .before .before .before .before .before .before .before .before .before .pre in
-    (g .0, ((c .before .before .before .before .before .before .before .uses-from .ensures .within, c .before .before .before .before .uses-from2 .ensures .within, omega arith, omega (arith, c .before .index .ensures .0, c .before .before .before .before .before .before .before .before .before .byte-at2 .ensures, g .0 .task-range (entry .task) (g .1 .1 .0) .sleeps)), g .1 .1 .1))
+    let at-byte-at2 = c .before .before .before .before .before .before .before .before .before in
+    let at-uses-from = c .before .before .before .before .before .before .before in
+    let at-uses-from2 = c .before .before .before .before in (
+      g .0,
+      (
+        (
+          at-uses-from .uses-from .ensures .within,
+          at-uses-from2 .uses-from2 .ensures .within,
+          omega arith,
+          omega
+              (arith, c .before .index .ensures .0, at-byte-at2 .byte-at2 .ensures, g .0 .task-range (entry .task) (g .1 .1 .0) .sleeps),
+        ),
+        g .1 .1 .1,
+      ),
+    )
 
 returns : tie.Need-returns
-returns c = let entry = c .before .before .before .before .before .before .before .before .before .before .before .before .before .args in
+returns c =
+    let entry = c .before .before .before .before .before .before .before .before .before .before .before .before .before .args in
     let g = c .before .before .before .before .before .before .before .before .before .before .before .before .before .pre in
-    let first = rw (c .before .before .before .before .before .before .before .before .before .wide .ensures .0, c .before .before .before .before .before .before .before .before .before .before .before .byte-at .ensures) at (c .before .before .before .before .before .before .before .before .uses-from .ensures) in
-    let end = rw (c .before .before .before .before .before .before .wide2 .ensures .0) at (c .before .before .before .before .before .uses-from2 .ensures) in
+    let at-byte-at = c .before .before .before .before .before .before .before .before .before .before .before in
+    let at-byte-at2 = c .before .before .before .before .before .before .before .before .before .before in
+    let at-wide = c .before .before .before .before .before .before .before .before .before in
+    let at-uses-from = c .before .before .before .before .before .before .before .before in
+    let at-wide2 = c .before .before .before .before .before .before in
+    let at-uses-from2 = c .before .before .before .before .before in
+    let at-later = c .before .before .before .before in
+    let at-extra = c .before .before .before in
+    let at-index = c .before .before in
+    let first = rw (at-wide .wide .ensures .0, at-byte-at .byte-at .ensures) at (at-uses-from .uses-from .ensures) in
+    let end = rw (at-wide2 .wide2 .ensures .0) at (at-uses-from2 .uses-from2 .ensures) in
     record {
       shape = refl;
       task = refl;
-      sleeps = c .before .before .before .before .before .before .before .before .before .before .byte-at2 .ensures;
-      kept = rw (← (c .before .before .index .ensures .0 ∙ c .before .before .before .before .before .before .before .before .before .before .byte-at2 .ensures)) (kept-blocks (entry .bytes .now) (entry .shape) (entry .settings .now) (entry .task) (entry .ceilings .now) (record { priority = c .before .before .before .before .before .before .before .before .before .before .before .byte-at .result; first = c .before .before .before .before .before .before .before .before .uses-from .result; end = c .before .before .before .before .before .uses-from2 .result; most = c .before .before .index .result + 1 }) first end (c .before .before .before .before .before .before .before .before .before .before .before .byte-at .ensures) (g .0) (g .1 .0) (c .before .before .index .result + 1) _ (c .keep-all .result) (c .keep-all .ensures));
-      extra = extra-is (entry .bytes .now) (entry .shape) (entry .settings .now) (entry .task) (c .before .before .before .before .before .before .before .before .uses-from .result) (c .before .before .before .before .before .uses-from2 .result) first end (entry .ceilings .now) (c .before .before .before .extra .result) (g .0) (g .1 .0) (rw (c .before .before .before .before .later .ensures, c .before .before .before .before .before .before .before .before .before .before .before .byte-at .ensures) at (c .before .before .before .extra .ensures));
+      sleeps = at-byte-at2 .byte-at2 .ensures;
+      kept = rw (← (at-index .index .ensures .0 ∙ at-byte-at2 .byte-at2 .ensures)) (kept-blocks (entry .bytes .now) (entry .shape)
+          (entry .settings .now) (entry .task) (entry .ceilings .now)
+          (record {
+            priority = at-byte-at .byte-at .result;
+            first = at-uses-from .uses-from .result;
+            end = at-uses-from2 .uses-from2 .result;
+            most =
+                at-index .index .result + 1;
+          }) first end (at-byte-at .byte-at .ensures) (g .0) (g .1 .0) (at-index .index .result + 1) _
+          (c .keep-all .result) (c .keep-all .ensures));
+      extra = extra-is (entry .bytes .now) (entry .shape) (entry .settings .now) (entry .task) (at-uses-from .uses-from .result)
+          (at-uses-from2 .uses-from2 .result) first end (entry .ceilings .now) (at-extra .extra .result) (g .0) (g .1 .0) (rw
+          (at-later .later .ensures, at-byte-at .byte-at .ensures) at (at-extra .extra .ensures));
     }
 
 pub asked-spec : {M : Type 1} → statement M

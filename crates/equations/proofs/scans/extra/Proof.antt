@@ -27,7 +27,7 @@ add-reaching-length : tie.Need-add-reaching-length Inv-loop μ-loop
 add-reaching-length c = omega (arith, c .before .before .before .pre .0 .uses-most, c .before .before .before .pre .0 .start, c .before .before .before .pre .0 .tasks-most)
 
 reaching-length-requires : tie.Need-reaching-length-requires Inv-loop μ-loop
-reaching-length-requires c κs = (omega (arith, c .before .before .before .pre .0 .uses-most, c .before .before .before .pre .0 .start, c .before .before .before .pre .0 .tasks-most), c .before .before .before .pre .0 .use-range (c .before .loop .k) (c .loop-test .taken) .resource-most)
+reaching-length-requires c κs = (omega (arith, c .before .before .before .pre .0 .whole), c .before .before .before .pre .0 .use-range (c .before .loop .k) (c .loop-test .taken) .resource-most)
 
 larger-requires : tie.Need-larger-requires Inv-loop μ-loop
 larger-requires c κs = search needs
