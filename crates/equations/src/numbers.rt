@@ -31,7 +31,7 @@ pub fn ceil_div(a: u64, b: u64) -> u64
     requires { ⌜ (a ≤ 4000000) × (1 ≤ b) × (b ≤ 1000000) ⌝ }
     ensures { λ r. ⌜ r ≡ ceil a b ⌝ }
 {
-    (a + (b - 1)) / b
+    ((a + (b - 1)) as u32 / b as u32) as u64
 }
 
 // A byte as a number to compute with.
