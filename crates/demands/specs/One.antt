@@ -3,8 +3,8 @@
 use Prim.Native.Nat.{ℕ, suc, _<_}
 use mathlib.Core.Path.{_≡_, sym, _∙_}
 use mathlib.Core.Logic.{_↔_}
-use mathlib.Core.List.{List}
-use lib.ListN.{getD, length}
+use mathlib.Core.List.{List, _++_}
+use lib.ListN.{getD, length, drop}
 use Rattle.table.specs.declared.Shape.{Shape}
 use Rattle.table.specs.declared.Reading.{Reading}
 use Rattle.table.specs.Fields.{wordAt, noTask, noUse, taskAt, useAt}
@@ -21,8 +21,8 @@ use Rattle.analysis.specs.Analysing.{analysed}
 use Rattle.analysis.specs.Answering.{answerAt}
 use Rattle.report.specs.declared.Row.{Row}
 use Rattle.report.specs.Reporting.{reported, rowsAfter}
-use Rattle.lines.specs.Lines.{fitted, printed}
-use Rattle.lines.specs.Writing.{Put}
+use Rattle.words.specs.Writing.{Put}
+use Rattle.notation.specs.Packing.{packInto}
 use Rattle.protocol.specs.Tasks.{priority}
 use Rattle.protocol.specs.State.{serial}
 use Rattle.protocol.specs.Running.{aboveSystem}
@@ -76,9 +76,12 @@ pub record OneReply : Type 0 where
   -- scheduler::set_up, and the six calls on any state
   pub sets-up : (s : List ℕ) → One (setUp s)
   pub calls : (s : Scheduler) (c : Call) → One (replied s c)
-  -- lines::bounds_lines: the place after the text, and the whole buffer
-  pub prints : (s : List ℕ) (allowance : ℕ) (out o₁ o₂ : List ℕ) (r₁ r₂ : ℕ) → Put out 0 (fitted (length out) (printed s allowance)) o₁ r₁
-      → Put out 0 (fitted (length out) (printed s allowance)) o₂ r₂ → (r₁ ≡ r₂) × (o₁ ≡ o₂)
+  -- notation::pack, and the buffer that it is lent
+  pub packs : (room : ℕ) (t : List ℕ) → One (packInto room t .packing)
+  pub packs-to : (t out : List ℕ) → One (packInto (length out) t .bytes ++ drop (length (packInto (length out) t .bytes)) out)
+  -- lines::bounds_lines, notation::show, notation::fault_line, notation::pack_reply: each puts one text at the front of a buffer, and of any text
+  -- that is put there the place after it and the whole buffer are fixed
+  pub prints : (t out o₁ o₂ : List ℕ) (r₁ r₂ : ℕ) → Put out 0 t o₁ r₁ → Put out 0 t o₂ r₂ → (r₁ ≡ r₂) × (o₁ ≡ o₂)
 
 pub one-reply : OneReply
 one-reply = record {
@@ -104,7 +107,9 @@ one-reply = record {
   reports-to = λ s allowance rows. one (rowsAfter s allowance rows);
   sets-up = λ s. one (setUp s);
   calls = λ s c. one (replied s c);
-  prints = λ s allowance out o₁ o₂ r₁ r₂ p q. (p .end ∙ sym (q .end), p .holds ∙ sym (q .holds));
+  packs = λ room t. one (packInto room t .packing);
+  packs-to = λ t out. one (packInto (length out) t .bytes ++ drop (length (packInto (length out) t .bytes)) out);
+  prints = λ t out o₁ o₂ r₁ r₂ p q. (p .end ∙ sym (q .end), p .holds ∙ sym (q .holds));
 }
 
 -- ---- refusals and numbers

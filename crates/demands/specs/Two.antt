@@ -1,11 +1,11 @@
 -- Demand 2, the paper's bounds: each the least solution of its equation, none exactly when no solution lies within the deadline, the whole set the
 -- largest that agrees with itself, values beside a none marked conditional. Each lock call does what the rules say. Tables written and read come back
--- the same.
+-- the same, as bytes and as text.
 use Prim.Native.Nat.{ℕ, _≤_, _<_}
 use mathlib.Core.Path.{_≡_}
 use mathlib.Core.Logic.{_↔_}
 use mathlib.Core.Bool.{true}
-use mathlib.Core.List.{List, _++_}
+use mathlib.Core.List.{List, [], _++_}
 use lib.ListN.{getD, length, take, drop}
 use native.Mathlib.Omega.{arith}
 use Rattle.table.specs.declared.Shape.{Shape}
@@ -34,6 +34,14 @@ use Rattle.analysis.proofs.Replies as replies
 use Rattle.analysis.proofs.Replies.{totalOf, SomeNone}
 use Rattle.lines.specs.Lines.{printed}
 use Rattle.lines.proofs.Fronts.{front-printed}
+use Rattle.notation.specs.declared.Fault.{Fault}
+use Rattle.notation.specs.declared.Packing.the-variants.{Packed, Faulty}
+use Rattle.notation.specs.Packing.{packed, packText}
+use Rattle.notation.specs.Faults.{packPrinted}
+use Rattle.notation.specs.Showing.{shown}
+use Rattle.notation.proofs.Answers as answers
+use Rattle.notation.proofs.Fronts as fronts
+use Rattle.notation.proofs.Trips as texts
 use Rattle.protocol.specs.Running.{aboveSystem}
 use Rattle.protocol.specs.Checks.{Call}
 use Rattle.protocol.specs.Step.{step}
@@ -104,3 +112,24 @@ bytes-again = trips.bytes-again
 pub table-again : (t : Table) → held.Sized t → (out : List ℕ) (n : ℕ) → writeTable t (length out) ≡ Written n
     → loadTable (take n (written t out)) .table ≡ held.trimmed t
 table-again = trips.table-again
+
+-- ---- texts
+
+-- the text of an accepted table packs back to the same bytes
+pub text-again : (s : List ℕ) → ((i : ℕ) → getD s i 0 < 256) → (h : Shape) → readTable s ≡ Accepted h → packText (shown s) ≡ packed s
+text-again = texts.packed-again
+
+-- what is packed is an accepted table, and a text with a fault gives no byte
+pub packed-accepted : (t : List ℕ) (n : ℕ) → packText t .packing ≡ Packed n
+    → (h : Shape) × (readTable (packText t .bytes) ≡ Accepted h) × (n ≡ length (packText t .bytes))
+packed-accepted = answers.packed-accepted
+
+pub fault-alone : (t : List ℕ) (f : Fault) → packText t .packing ≡ Faulty f → packText t .bytes ≡ []
+fault-alone = answers.faulty-nothing
+
+-- 8,192 bytes of a table and 262,145 of a text decide what is printed of them
+pub front-shown : (s : List ℕ) → shown (take 8192 s) ≡ shown s
+front-shown = fronts.front-shown
+
+pub front-packed : (t : List ℕ) → packPrinted (take 262145 t) ≡ packPrinted t
+front-packed = fronts.front-packed

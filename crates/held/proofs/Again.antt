@@ -49,14 +49,14 @@ module _ (s : List ℕ) (bytes : (i : ℕ) → getD s i 0 < 256) where
       word-bytes (getD s (at + j) 0) (getD s (at + j + 1) 0) (getD s (at + j + 2) 0) (getD s (at + j + 3) 0) (bytes _) (bytes _) (bytes _) (bytes _) ∙ cc
 
   -- a task's record is its 20 bytes
-  task-bytes : (at : ℕ) → at + 20 ≤ length s → getD s at 0 ≡ 1 → taskBytes (taskAt s at) ≡ take 20 (drop at s)
+  pub task-bytes : (at : ℕ) → at + 20 ≤ length s → getD s at 0 ≡ 1 → taskBytes (taskAt s at) ≡ take 20 (drop at s)
   unfolding every
   task-bytes at h k =
       let z : at + 0 ≡ at = omega arith in
       cc (part-every s at 20 h, k, z, word-bytes-at at 4, word-bytes-at at 8, word-bytes-at at 12, word-bytes-at at 16)
 
   -- and a use's its 8
-  use-bytes : (at : ℕ) → at + 8 ≤ length s → getD s at 0 ≡ 2 → useBytes (useAt s at) ≡ take 8 (drop at s)
+  pub use-bytes : (at : ℕ) → at + 8 ≤ length s → getD s at 0 ≡ 2 → useBytes (useAt s at) ≡ take 8 (drop at s)
   unfolding every
   use-bytes at h k =
       let z : at + 0 ≡ at = omega arith in

@@ -1,8 +1,8 @@
 mod Joined
 mod Puts
-mod Loads
+pub mod Loads
 mod Writes
 mod Laying
-mod Again
+pub mod Again
 pub mod Refusals
 pub mod Trips

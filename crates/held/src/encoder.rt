@@ -28,7 +28,7 @@ fn beyond(count: usize, limit: usize, size: usize) -> usize
 }
 
 // A word as four bytes, low byte first.
-fn put_word(buffer: &mut [u8], at: usize, word: u32)
+pub fn put_word(buffer: &mut [u8], at: usize, word: u32)
     requires { ⌜ at + 4 ≤ length (now buffer) ⌝ }
     ensures { λ _. ⌜ now (buffer .exit) ≡ sets (now (buffer .entry)) at (wordBytes word) ⌝ }
 {

@@ -8,6 +8,7 @@ ghost use Rattle.held.specs.Writing.{writeTable, written, decided};
 mod encoder;
 mod loader;
 
+pub use encoder::put_word;
 use table::Reading;
 use table::Refusal;
 use table::Task;

@@ -1,3 +1,2 @@
-mod Texts
 mod Puts
 pub mod Fronts

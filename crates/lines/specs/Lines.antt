@@ -3,7 +3,6 @@ use Prim.Native.Nat.{ℕ, zero, suc}
 use mathlib.Core.Bool.{Bool, true, false, cond}
 use mathlib.Core.List.{List, [], _∷_, _++_}
 use lib.Dec.{ltb}
-use Rattle.table.specs.declared.Refusal.{Refusal}
 use Rattle.table.specs.declared.Task.{Task}
 use Rattle.table.specs.WellFormed.{taskOf}
 use Rattle.analysis.specs.declared.Analysis.{Analysis}
@@ -11,19 +10,8 @@ use Rattle.analysis.specs.declared.TaskAnswer.{TaskAnswer}
 use Rattle.analysis.specs.declared.TaskAnswer.the-variants.{Bound, Conditional, Nothing}
 use Rattle.analysis.specs.Analysing.{analysed}
 use Rattle.analysis.specs.Answering.{answerAt}
-use Rattle.lines.specs.Text.{text, decimal}
-
--- a word and a number after it
-abbrev pub labelled : List ℕ → ℕ → List ℕ
-labelled label n = label ++ decimal n
-
--- the end of a line
-abbrev pub newline : List ℕ
-newline = 10 ∷ []
-
--- a refusal, with its place
-abbrev pub refusalLine : Refusal → List ℕ
-refusalLine f = labelled (text "refused ") (f .number) ++ (labelled (text " at ") (f .place) ++ newline)
+use Rattle.words.specs.Text.{text, labelled, newline}
+use Rattle.words.specs.Refusing.{refusalLine}
 
 -- the verdict and the total
 abbrev pub verdictText : Bool → ℕ → List ℕ
@@ -54,7 +42,3 @@ linesOf s a =
 -- what the bounds program prints of a table's bytes
 abbrev pub printed : List ℕ → ℕ → List ℕ
 printed s allowance = linesOf s (analysed s allowance)
-
--- a text where a buffer has room for all that is ever printed, else none
-abbrev pub fitted : ℕ → List ℕ → List ℕ
-fitted room lines = cond (ltb room 4096) [] lines

@@ -2,27 +2,17 @@
 ghost use Prim.Native.Nat.{_≤_};
 ghost use lib.ListN.{length};
 ghost use Rattle.io.specs.Counts.{Counts};
-ghost use Rattle.lines.specs.Lines.{refusalLine, verdictText, linesOf, fitted, printed};
-ghost use Rattle.lines.specs.Writing.{Put};
+ghost use Rattle.lines.specs.Lines.{verdictText, linesOf, printed};
+ghost use Rattle.words.specs.Text.{fitted};
+ghost use Rattle.words.specs.Writing.{Put};
 
 mod tasks;
-mod writing;
 
 use analysis::Analysis;
-use table::Refusal;
 use tasks::put_tasks;
-use writing::put;
-use writing::put_text;
-
-// Puts the line of a refusal at the front.
-fn put_refusal(out: &mut [u8], refusal: Refusal) -> usize
-    requires { ⌜ 64 ≤ length (now out) ⌝ }
-    ensures { λ r. ⌜ Put (now (out .entry)) 0 (refusalLine refusal) (now (out .exit)) r ⌝ }
-{
-    let number = put(out, 0, b"refused ", refusal.number as u64);
-    let end = put(out, number, b" at ", refusal.place as u64);
-    put_text(out, end, b"\n")
-}
+use words::put;
+use words::put_refusal;
+use words::put_text;
 
 // Puts the verdict and the total at the front.
 fn put_verdict(out: &mut [u8], verdict: bool, evaluations: u64) -> usize
@@ -53,7 +43,7 @@ fn put_lines(out: &mut [u8], bytes: &[u8], analysis: Analysis) -> usize
 // What the bounds program prints of a table's bytes, at the front of a buffer; the answer is how long it is, and the rest of the buffer stays.
 // A buffer of less than 4,096 bytes stays as it is, and the answer is 0.
 pub fn bounds_lines(bytes: &[u8], allowance: u64, out: &mut [u8]) -> usize
-    ensures { λ r. ⌜ Put (now (out .entry)) 0 (fitted (length (now (out .entry))) (printed (now (bytes .entry)) allowance)) (now (out .exit)) r ⌝ }
+    ensures { λ r. ⌜ Put (now (out .entry)) 0 (fitted 4096 (length (now (out .entry))) (printed (now (bytes .entry)) allowance)) (now (out .exit)) r ⌝ }
     ensures { λ r. ⌜ Counts r (now (out .exit)) ⌝ }
 {
     if out.len() < 4096 {

@@ -2,12 +2,12 @@
 ghost use Prim.Native.Nat.{_+_, _*_, _≤_};
 ghost use lib.ListN.{length};
 ghost use Rattle.lines.specs.Lines.{answerText, taskLine, taskLines};
-ghost use Rattle.lines.specs.Writing.{Put};
-use crate::writing::put;
-use crate::writing::put_text;
+ghost use Rattle.words.specs.Writing.{Put};
 use analysis::Analysis;
 use analysis::TaskAnswer;
 use table::Task;
+use words::put;
+use words::put_text;
 
 // Puts what a task is answered.
 fn put_answer(out: &mut [u8], at: usize, answer: TaskAnswer) -> usize

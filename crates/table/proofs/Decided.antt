@@ -15,6 +15,7 @@ use Rattle.table.specs.Fields.{wordAt, taskAt, useAt}
 use Rattle.table.specs.Rules.{taskRule, useRule, withTask, withUse, placeFrom}
 use Rattle.table.specs.Reading.{startWalk, ruled, taskStep, useStep, endStep, stepAt, userAt, onward, readFrom, readTable}
 use Rattle.table.proofs.Laws.{place-within}
+use Rattle.table.proofs.Agreeing.{word-same, task-same, use-same, place-same}
 use Rattle.table.proofs.Walked.{step-on, step-kept}
 use Rattle.table.proofs.Accepted.{Seen, seen-start, seen-task, seen-use}
 
@@ -45,34 +46,6 @@ module _ (s : List ℕ) where
 -- ---- two inputs with one front
 
 module _ (s r : List ℕ) (same : (i : ℕ) → i < 5000 → getD r i 0 ≡ getD s i 0) (long : 5000 ≤ length s) (other : 5000 ≤ length r) where
-  word-same : (i : ℕ) → i + 4 ≤ 5000 → wordAt r i ≡ wordAt s i
-  unfolding wordAt
-  word-same i h = rw (same i (omega arith), same (i + 1) (omega arith), same (i + 2) (omega arith), same (i + 3) (omega arith))
-
-  task-same : (i : ℕ) → i + 20 ≤ 5000 → taskAt r i ≡ taskAt s i
-  task-same i h = λ k. record {
-    priority = same (i + 1) (omega arith) k;
-    setting = same (i + 2) (omega arith) k;
-    sleeps = same (i + 3) (omega arith) k;
-    run = word-same (i + 4) (omega arith) k;
-    sleep = word-same (i + 8) (omega arith) k;
-    deadline = word-same (i + 12) (omega arith) k;
-    period = word-same (i + 16) (omega arith) k;
-  }
-
-  use-same : (i : ℕ) → i + 8 ≤ 5000 → useAt r i ≡ useAt s i
-  use-same i h = λ k. record {
-    priority = same (i + 1) (omega arith) k;
-    resource = same (i + 2) (omega arith) k;
-    times = same (i + 3) (omega arith) k;
-    length = word-same (i + 4) (omega arith) k;
-  }
-
-  place-same : (k i p : ℕ) → i + k ≤ 200 → placeFrom k r i p ≡ placeFrom k s i p
-  unfolding placeFrom
-  place-same zero i p h = refl
-  place-same (suc k) i p h = rw (same (20 * i + 1) (omega arith), place-same k (i + 1) p (omega arith))
-
   module _ (w : Walk) (g : Seen s w) where
     -- the walk's place, well before both ends
     near : w .at ≤ 4736
@@ -84,8 +57,8 @@ module _ (s r : List ℕ) (same : (i : ℕ) → i < 5000 → getD r i 0 ≡ getD
 
     user-same : userAt r w ≡ userAt s w
     user-same =
-        ap (λ u. placeFrom (w .tasks - w .user) r (w .user) (u .priority)) (use-same (w .at) (omega (arith, near)))
-        ∙ place-same (w .tasks - w .user) (w .user) (useAt s (w .at) .priority) (omega (arith, g .tasks-most, g .user-most))
+        ap (λ u. placeFrom (w .tasks - w .user) r (w .user) (u .priority)) (use-same s r 5000 same (w .at) (omega (arith, near)))
+        ∙ place-same s r 5000 same (w .tasks - w .user) (w .user) (useAt s (w .at) .priority) (omega (arith, g .tasks-most, g .user-most))
 
     user-most : userAt s w ≤ 100
     user-most =
@@ -104,15 +77,15 @@ module _ (s r : List ℕ) (same : (i : ℕ) → i < 5000 → getD r i 0 ≡ getD
     task-step : taskStep r w ≡ taskStep s w
     task-step =
         task-ruled r (omega (arith, near))
-        ∙ ap (λ t. ruled (taskRule w t) (w .at) (withTask w t)) (task-same (w .at) (omega (arith, near)))
+        ∙ ap (λ t. ruled (taskRule w t) (w .at) (withTask w t)) (task-same s r 5000 same (w .at) (omega (arith, near)))
         ∙ sym (task-ruled s (omega (arith, near)))
 
     use-step : useStep r w ≡ useStep s w
     use-step =
         use-ruled r (omega (arith, near))
-        ∙ ap (λ u. useTurn u (userAt r w) (wordAt r (20 * userAt r w + 4))) (use-same (w .at) (omega (arith, near)))
+        ∙ ap (λ u. useTurn u (userAt r w) (wordAt r (20 * userAt r w + 4))) (use-same s r 5000 same (w .at) (omega (arith, near)))
         ∙ ap (λ i. useTurn (useAt s (w .at)) i (wordAt r (20 * i + 4))) user-same
-        ∙ ap (useTurn (useAt s (w .at)) (userAt s w)) (word-same (20 * userAt s w + 4) (omega (arith, user-most)))
+        ∙ ap (useTurn (useAt s (w .at)) (userAt s w)) (word-same s r 5000 same (20 * userAt s w + 4) (omega (arith, user-most)))
         ∙ sym (use-ruled s (omega (arith, near)))
 
     end-step : endStep r w ≡ endStep s w

@@ -1,4 +1,5 @@
 pub mod Laws
+mod Agreeing
 mod Told
 mod Walked
 pub mod Accepted
@@ -6,3 +7,4 @@ pub mod Complete
 pub mod Laid
 mod Parts
 pub mod Decided
+pub mod Prefixes

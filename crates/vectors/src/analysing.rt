@@ -1,4 +1,5 @@
-// Cases that analyse a table: what is printed are the lines of the bounds program.
+// Cases that analyse a table: what is printed are the lines of the bounds program, and a line of the table's text.
+use crate::texts::put_shown;
 use harness::input::filled;
 use harness::input::front;
 use harness::input::long_of;
@@ -18,6 +19,7 @@ fn run_table(fd: i32, allowance: u64, bytes: &mut [u8]) -> bool {
         return false;
     }
     put_lines(bytes, allowance);
+    put_shown(bytes);
     true
 }
 

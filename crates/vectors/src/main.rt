@@ -1,7 +1,8 @@
-// Runs the cases of data/tables through the proved crates and prints one line for each. second/README.md has the formats.
+// Runs the cases of data/tables through the proved crates and prints the lines of each. second/README.md has the formats.
 mod analysing;
 mod reading;
 mod sums;
+mod texts;
 mod writing;
 
 use harness::input::filled;
@@ -15,6 +16,8 @@ fn run_case(fd: i32) -> bool {
     let kind = byte[0];
     match kind {
         b'A' => analysing::run(fd),
+        b'L' => texts::run_long(fd),
+        b'P' => texts::run(fd),
         b'R' => reading::run(fd),
         b'W' => writing::run(fd),
         _ => false,

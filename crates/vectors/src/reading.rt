@@ -1,5 +1,6 @@
 // Cases that read a table.
 use crate::sums;
+use crate::texts::put_shown;
 use harness::input::filled;
 use harness::input::front;
 use harness::input::short_at;
@@ -34,16 +35,17 @@ fn put_line(bytes: &[u8], priority: u8) {
     end_line();
 }
 
-// Fills the buffer with a table from the input, prints its line and answers whether it was whole.
+// Fills the buffer with a table from the input, prints its lines and answers whether it was whole.
 fn run_table(fd: i32, priority: u8, bytes: &mut [u8]) -> bool {
     if !filled(fd, bytes) {
         return false;
     }
     put_line(bytes, priority);
+    put_shown(bytes);
     true
 }
 
-// Reads the rest of such a case, prints its line and answers whether it was whole.
+// Reads the rest of such a case, prints its lines and answers whether it was whole.
 pub fn run(fd: i32) -> bool {
     let mut head = [0u8; 3];
     if !filled(fd, &mut head) {

@@ -4,7 +4,7 @@ use lib.ListN.{length}
 use borrow.Author.Tests.{lt-ltb, le-ltb}
 use borrow.Author.Needs.{needs}
 use Rattle.analysis.proofs.Replies.{tasks-most}
-use Rattle.lines.proofs.Puts.{put-none, put-counts}
+use Rattle.words.proofs.Puts.{put-none, put-counts}
 use Rattle.lines.proofs.bounds_lines.Statement.{statement}
 use Rattle.lines.proofs.bounds_lines.Tie as tie
 

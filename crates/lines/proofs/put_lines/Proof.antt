@@ -3,8 +3,9 @@ use mathlib.Core.List.{_++_}
 use native.Mathlib.Omega.{arith}
 use borrow.Author.Tests.{lt-ltb, le-ltb}
 use borrow.Author.Needs.{needs}
-use Rattle.lines.specs.Lines.{newline, verdictText, taskLines}
-use Rattle.lines.proofs.Puts.{put-then}
+use Rattle.words.specs.Text.{newline}
+use Rattle.lines.specs.Lines.{verdictText, taskLines}
+use Rattle.words.proofs.Puts.{put-then}
 use Rattle.lines.proofs.put_lines.Statement.{statement}
 use Rattle.lines.proofs.put_lines.Tie as tie
 

@@ -2,9 +2,9 @@
 use mathlib.Core.List.{[], _++_}
 use native.Mathlib.Omega.{arith}
 use borrow.Author.Needs.{needs}
-use Rattle.lines.specs.Text.{text}
-use Rattle.lines.specs.Lines.{labelled, newline, answerText}
-use Rattle.lines.proofs.Puts.{put-then}
+use Rattle.words.specs.Text.{text, labelled, newline}
+use Rattle.lines.specs.Lines.{answerText}
+use Rattle.words.proofs.Puts.{put-then}
 use Rattle.lines.proofs.tasks.put_task.Statement.{statement}
 use Rattle.lines.proofs.tasks.put_task.Tie as tie
 

@@ -5,7 +5,7 @@ use borrow.Author.Needs.{needs}
 use native.Mathlib.Omega.{arith}
 use lib.ListN.{length}
 use Rattle.lines.specs.Lines.{taskLines}
-use Rattle.lines.specs.Writing.{Put}
+use Rattle.words.specs.Writing.{Put}
 use Rattle.lines.proofs.Puts.{no-lines, line-more}
 use Rattle.lines.proofs.tasks.put_tasks.Statement.{statement}
 use Rattle.lines.proofs.tasks.put_tasks.Tie as tie

@@ -1,0 +1,15 @@
+mod Naming
+mod Rowing
+mod Froms
+mod Steps
+mod Lines
+mod Packs
+mod Showings
+mod Again
+mod Cells
+mod RowTrips
+pub mod Answers
+pub mod Fronts
+mod Sizes
+mod Onward
+pub mod Trips

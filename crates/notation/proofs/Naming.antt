@@ -1,0 +1,99 @@
+-- Laws of what a number stands for, a column or a cause, and of texts put one after the other.
+use Prim.Native.Nat.{ℕ, zero, suc, _+_, _≤_, _<_}
+use mathlib.Core.Path.{_≡_, subst}
+use mathlib.Core.List.{List, [], _++_}
+use native.Mathlib.Decide.{decLe}
+use native.Mathlib.Omega.{arith}
+use borrow.Author.Tests.{le-leb, lt-leb, ne-eqb}
+use lib.ListN.{length}
+use Rattle.words.specs.Text.{text}
+use Rattle.words.specs.Writing.{Put}
+use Rattle.words.proofs.Puts.{put-then}
+use Rattle.notation.specs.Columns.{name}
+use Rattle.notation.specs.Faults.{opening, middle}
+
+-- a text put where another ended within the buffer: both together
+pub put-on : {o t u o₁ o₂ : List ℕ} {at r₁ r₂ : ℕ} → Put o at t o₁ r₁ → r₁ ≤ length o → Put o₁ r₁ u o₂ r₂ → Put o at (t ++ u) o₂ r₂
+put-on {o} {t} {u} {o₁} {o₂} {at} {r₁} {r₂} p l q = put-then o at t u o₁ o₂ r₁ r₂ (omega (arith, p .end)) p q
+
+-- what holds at a number and at the next holds at each that is one of them
+pub of-two : (p : ℕ → Type 0) (a c : ℕ) → p a → p (a + 1) → a ≤ c → c < a + 2 → p c
+of-two p a c here next l g = go (decLe (a + 1) c)
+  where
+    go : Dec (a + 1 ≤ c) → p c
+    go (yes h) =
+        let e : a + 1 ≡ c = omega arith in
+        subst p e next
+    go (no h) =
+        let e : a ≡ c = omega arith in
+        subst p e here
+
+-- a number differs from the k numbers from a on
+abbrev pub Differs : ℕ → ℕ → ℕ → Type 0
+Differs a zero c = Unit {0}
+Differs a (suc k) c = Differs a k c × (c ≡ a + k → ⊥)
+
+-- then it is not among them
+pub not-among : (a k c : ℕ) → Differs a k c → a ≤ c → c < a + k → ⊥
+not-among a zero c d l g = omega arith
+not-among a (suc k) c d l g = not-among a k c (d .0) l (omega (arith, d .1))
+
+-- what is none of the columns has no name
+pub name-else : (c : ℕ) → (0 ≤ c → c < 11 → ⊥) → name c ≡ []
+unfolding name
+name-else c h =
+    rw (
+      ne-eqb c 0 (λ e. h (omega arith) (omega arith)),
+      ne-eqb c 1 (λ e. h (omega arith) (omega arith)),
+      ne-eqb c 2 (λ e. h (omega arith) (omega arith)),
+      ne-eqb c 3 (λ e. h (omega arith) (omega arith)),
+      ne-eqb c 4 (λ e. h (omega arith) (omega arith)),
+      ne-eqb c 5 (λ e. h (omega arith) (omega arith)),
+      ne-eqb c 6 (λ e. h (omega arith) (omega arith)),
+      ne-eqb c 7 (λ e. h (omega arith) (omega arith)),
+      ne-eqb c 8 (λ e. h (omega arith) (omega arith)),
+      ne-eqb c 9 (λ e. h (omega arith) (omega arith)),
+      ne-eqb c 10 (λ e. h (omega arith) (omega arith)),
+    )
+
+-- up to cause 13, what is not about a column is about a task
+pub opening-task : (c : ℕ) → c ≤ 13 → (7 ≤ c → c ≤ 10 → ⊥) → opening c ≡ text "task "
+unfolding opening
+opening-task c l h =
+    rw (
+      ne-eqb c 7 (λ e. h (omega arith) (omega arith)),
+      ne-eqb c 8 (λ e. h (omega arith) (omega arith)),
+      ne-eqb c 9 (λ e. h (omega arith) (omega arith)),
+      ne-eqb c 10 (λ e. h (omega arith) (omega arith)),
+      le-leb c 13 l,
+    )
+
+-- past cause 15, the sections are spoken of
+pub opening-past : (c : ℕ) → 15 < c → opening c ≡ text "the sections of task "
+unfolding opening
+opening-past c l =
+    rw (
+      ne-eqb c 7 (λ e. omega arith),
+      ne-eqb c 8 (λ e. omega arith),
+      ne-eqb c 9 (λ e. omega arith),
+      ne-eqb c 10 (λ e. omega arith),
+      lt-leb c 13 (omega arith),
+      ne-eqb c 14 (λ e. omega arith),
+      ne-eqb c 15 (λ e. omega arith),
+    )
+
+-- what is no cause from 7 to 15 speaks of a sum above the run
+pub middle-else : (c : ℕ) → (7 ≤ c → c < 16 → ⊥) → middle c ≡ text " add up to more than its run "
+unfolding middle
+middle-else c h =
+    rw (
+      ne-eqb c 7 (λ e. h (omega arith) (omega arith)),
+      ne-eqb c 8 (λ e. h (omega arith) (omega arith)),
+      ne-eqb c 9 (λ e. h (omega arith) (omega arith)),
+      ne-eqb c 10 (λ e. h (omega arith) (omega arith)),
+      ne-eqb c 11 (λ e. h (omega arith) (omega arith)),
+      ne-eqb c 12 (λ e. h (omega arith) (omega arith)),
+      ne-eqb c 13 (λ e. h (omega arith) (omega arith)),
+      ne-eqb c 14 (λ e. h (omega arith) (omega arith)),
+      ne-eqb c 15 (λ e. h (omega arith) (omega arith)),
+    )

@@ -1,0 +1,7 @@
+pub mod Columns
+pub mod Rows
+pub mod Taking
+pub mod Packing
+pub mod Stepping
+pub mod Faults
+pub mod Showing

@@ -1,0 +1,3 @@
+pub mod Texts
+pub mod Puts
+pub mod Words
