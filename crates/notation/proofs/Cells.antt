@@ -5,15 +5,15 @@ use mathlib.Core.Bool.{Bool, true, false, cond, not, _||_}
 use mathlib.Core.List.{List, [], _∷_, _++_, append-assoc}
 use native.Mathlib.Omega.{arith}
 use borrow.Author.Tests.{le-ltb}
-use lib.Dec.{ltb, eqb}
+use lib.Dec.{eqb}
 use lib.ListN.{length, take, drop, replicate}
 use lib.Seq.{drop-drop, drop-append-seam, take-append-seam}
 use Rattle.words.specs.Text.{text, decimal, newline}
-use Rattle.words.specs.Finding.{blank, inClass, lead, runEnd, wordStart, wordOf, same, isNumber, valueOf}
+use Rattle.words.specs.Finding.{blank, inClass, lead, runEnd, wordStart, wordOf, same}
 use Rattle.words.proofs.Words.{lead-all, same-refl, value-decimal, number-decimal, digits-word, digits-some}
 use Rattle.notation.specs.declared.rows.Cell.{Cell}
 use Rattle.notation.specs.Columns.{name, least, most, width}
-use Rattle.notation.specs.Rows.{noCell, numberAt, cellAt}
+use Rattle.notation.specs.Rows.{noCell, valueCell, numberAt, cellAt}
 use Rattle.notation.specs.Showing.{spacing, cellText}
 
 -- ---- words in a text
@@ -67,15 +67,6 @@ spacing-stops c rest = go (eqb c 6 || eqb c 10)
     go true = refl
     go false = refl
 
--- what is read of a word where a number is to stand
-abbrev numbered : ℕ → ℕ → ℕ → List ℕ → Cell
-numbered c b e w =
-    cond (isNumber w)
-    (cond (ltb (valueOf w) (least c)) (noCell 4 b)
-    (cond (ltb (most c) (valueOf w)) (noCell 5 b)
-    (record { cause = 0; at = b; end = e; value = valueOf w })))
-    (noCell 3 b)
-
 -- a column can be read again with a value: its name is a word, the value is in its range, and the range is one that is read
 pub record Fits (c v : ℕ) : Type 0 where
   pub word : lead (inClass 1) (name c) ≡ length (name c)
@@ -91,7 +82,7 @@ pub record CellAgain (t : List ℕ) (cell : Cell) (v : ℕ) (rest : List ℕ) : 
   pub left : drop (cell .end) t ≡ rest
 
 -- a written number is read as itself
-numbered-decimal : (c b e v : ℕ) → Fits c v → numbered c b e (decimal v) ≡ record { cause = 0; at = b; end = e; value = v }
+numbered-decimal : (c b e v : ℕ) → Fits c v → valueCell c b e (decimal v) ≡ record { cause = 0; at = b; end = e; value = v }
 numbered-decimal c b e v f =
     rw (number-decimal v, value-decimal v (omega (arith, f .high, f .read)), le-ltb v (least c) (f .low), le-ltb (most c) v (f .high))
 
@@ -104,7 +95,7 @@ module _ (t : List ℕ) where
       let b = wordStart t at in
       let there : drop b t ≡ decimal v ++ rest = run-rest t at 0 gap (decimal v ++ rest) e blanks (word-opens (decimal v) rest (digits-word v) (digits-some v)) in
       let is : numberAt t at c ≡ record { cause = 0; at = b; end = runEnd t b 1; value = v } =
-      ap (numbered c b (runEnd t b 1)) (word-is t b (decimal v) rest there (digits-word v) none) ∙ numbered-decimal c b (runEnd t b 1) v f in
+      ap (valueCell c b (runEnd t b 1)) (word-is t b (decimal v) rest there (digits-word v) none) ∙ numbered-decimal c b (runEnd t b 1) v f in
       record {
         cause = ap (λ (x : Cell). x .cause) is;
         value = ap (λ (x : Cell). x .value) is;

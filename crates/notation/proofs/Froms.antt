@@ -1,6 +1,5 @@
 -- What is taken of a line stands at its start or after it.
 use Prim.Native.Nat.{ℕ, zero, suc, _+_, _≤_}
-use mathlib.Core.Bool.{Bool, true, false, cond}
 use mathlib.Core.List.{List}
 use native.Mathlib.Omega.{arith}
 use lib.Dec.{ltb, eqb}
@@ -9,11 +8,7 @@ use Rattle.words.specs.Finding.{runEnd, wordStart, wordOf, same, isNumber, valu
 use Rattle.notation.specs.declared.rows.Cell.{Cell}
 use Rattle.notation.specs.Columns.{name, least, most}
 use Rattle.notation.specs.Rows.{Row, numberAt, cellAt, cellsFrom, rowAt}
-
--- what is so of both is so of either
-chosen : {A : Type 0} (P : A → Type 0) (b : Bool) {x y : A} → P x → P y → P (cond b x y)
-chosen P true p q = p
-chosen P false p q = q
+use Rattle.notation.proofs.Naming.{chosen}
 
 module _ (s : List ℕ) where
   -- a cell's word and end, from a place on

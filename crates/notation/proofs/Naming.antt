@@ -1,16 +1,22 @@
 -- Laws of what a number stands for, a column or a cause, and of texts put one after the other.
 use Prim.Native.Nat.{ℕ, zero, suc, _+_, _≤_, _<_}
 use mathlib.Core.Path.{_≡_, subst}
+use mathlib.Core.Bool.{Bool, true, false, cond}
 use mathlib.Core.List.{List, [], _++_}
 use native.Mathlib.Decide.{decLe}
 use native.Mathlib.Omega.{arith}
-use borrow.Author.Tests.{le-leb, lt-leb, ne-eqb}
+use borrow.Author.Tests.{ne-eqb}
 use lib.ListN.{length}
 use Rattle.words.specs.Text.{text}
 use Rattle.words.specs.Writing.{Put}
 use Rattle.words.proofs.Puts.{put-then}
 use Rattle.notation.specs.Columns.{name}
 use Rattle.notation.specs.Faults.{opening, middle}
+
+-- what is so of both is so of either
+pub chosen : {A : Type 0} (P : A → Type 0) (b : Bool) {x y : A} → P x → P y → P (cond b x y)
+chosen P true p q = p
+chosen P false p q = q
 
 -- a text put where another ended within the buffer: both together
 pub put-on : {o t u o₁ o₂ : List ℕ} {at r₁ r₂ : ℕ} → Put o at t o₁ r₁ → r₁ ≤ length o → Put o₁ r₁ u o₂ r₂ → Put o at (t ++ u) o₂ r₂
@@ -56,30 +62,19 @@ name-else c h =
       ne-eqb c 10 (λ e. h (omega arith) (omega arith)),
     )
 
--- up to cause 13, what is not about a column is about a task
-pub opening-task : (c : ℕ) → c ≤ 13 → (7 ≤ c → c ≤ 10 → ⊥) → opening c ≡ text "task "
+-- what is no cause from 7 to 10 or from 14 to 16 is about a task
+pub opening-else : (c : ℕ) → ((Differs 7 4 c × (c ≡ 14 → ⊥)) × (c ≡ 15 → ⊥)) × (c ≡ 16 → ⊥) → opening c ≡ text "task "
 unfolding opening
-opening-task c l h =
+opening-else c r =
+    let first = r .0 .0 .0 in
     rw (
-      ne-eqb c 7 (λ e. h (omega arith) (omega arith)),
-      ne-eqb c 8 (λ e. h (omega arith) (omega arith)),
-      ne-eqb c 9 (λ e. h (omega arith) (omega arith)),
-      ne-eqb c 10 (λ e. h (omega arith) (omega arith)),
-      le-leb c 13 l,
-    )
-
--- past cause 15, the sections are spoken of
-pub opening-past : (c : ℕ) → 15 < c → opening c ≡ text "the sections of task "
-unfolding opening
-opening-past c l =
-    rw (
-      ne-eqb c 7 (λ e. omega arith),
-      ne-eqb c 8 (λ e. omega arith),
-      ne-eqb c 9 (λ e. omega arith),
-      ne-eqb c 10 (λ e. omega arith),
-      lt-leb c 13 (omega arith),
-      ne-eqb c 14 (λ e. omega arith),
-      ne-eqb c 15 (λ e. omega arith),
+      ne-eqb c 7 (first .0 .0 .0 .1),
+      ne-eqb c 8 (first .0 .0 .1),
+      ne-eqb c 9 (first .0 .1),
+      ne-eqb c 10 (first .1),
+      ne-eqb c 14 (r .0 .0 .1),
+      ne-eqb c 15 (r .0 .1),
+      ne-eqb c 16 (r .1),
     )
 
 -- what is no cause from 7 to 15 speaks of a sum above the run

@@ -12,18 +12,12 @@ use Rattle.held.proofs.Again.{task-bytes, use-bytes}
 use Rattle.words.specs.Text.{text, decimal, newline, joined}
 use Rattle.words.specs.Finding.{inClass, lead, wordStart, wordOf, nextLine, same}
 use Rattle.notation.specs.Columns.{name, least, most, width, wide, offset, fieldAt, valueBytes}
-use Rattle.notation.specs.Rows.{Row, noRow, after, withCell, cellAt, cellsFrom, rowAt}
+use Rattle.notation.specs.Rows.{Row, noRow, after, withCell, cellAt, cellsFrom, rowBy, rowAt}
 use Rattle.notation.specs.Showing.{spacing, cellText, rowText}
-use Rattle.notation.proofs.Again.{RowAgain}
+use Rattle.notation.proofs.Again.{Read, RowAgain}
 use Rattle.notation.proofs.Cells.{Fits, CellAgain, word-opens, past-front, run-ends, run-rest, word-is, cell-again}
 
 -- ---- the cells of a line
-
--- a row without fault that has these bytes, and what follows its line is the rest of the text
-record Read (t : List ℕ) (row : Row) (bytes rest : List ℕ) : Type 0 where
-  cause : row .cause ≡ 0
-  same : row .bytes ≡ bytes
-  next : drop (nextLine t (row .at)) t ≡ rest
 
 -- what a line asks of k columns more after column c: each can be read again, two spaces come between, and a new line at the end
 abbrev Line : (ℕ → ℕ) → ℕ → ℕ → Type 0
@@ -90,14 +84,6 @@ module _ (t : List ℕ) where
       (there ∙ sym apart, word-is t (wordStart t at) (name c) tail there (fits .word) refl)
 
 -- ---- a task's line and a use's
-
--- what a line is by its first word, which starts at b
-abbrev rowBy : List ℕ → ℕ → List ℕ → Row
-rowBy t b w =
-    cond (eqb (length w) 0) (noRow 0 11 b)
-    (cond (same w (name 0)) (after (1 ∷ []) (cellsFrom 7 t b 0))
-    (cond (same w (name 7)) (after (2 ∷ []) (cellsFrom 4 t b 7))
-    (noRow 1 11 b)))
 
 module _ (t : List ℕ) (at : ℕ) where
   -- a line whose first word is the name of a task

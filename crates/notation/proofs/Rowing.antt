@@ -15,7 +15,7 @@ use Rattle.words.proofs.Puts.{put-none, put-then}
 use Rattle.notation.specs.declared.rows.Cell.{Cell}
 use Rattle.notation.specs.declared.rows.Taken.{Taken}
 use Rattle.notation.specs.Columns.{name, least, most, wide, valueBytes}
-use Rattle.notation.specs.Rows.{noCell, numberAt, cellAt, Row, noRow, after, rowEnd, withCell, cellsFrom, rowAt}
+use Rattle.notation.specs.Rows.{noCell, valueCell, numberAt, cellAt, Row, noRow, after, rowEnd, withCell, cellsFrom, rowAt}
 use Rattle.notation.specs.Taking.{Within, takenBy, TakenPut}
 
 -- ---- a word of a text
@@ -57,22 +57,13 @@ module _ {s : List ℕ} {at b e : ℕ} (f : Found s at b e) where
 pub none-within : {r : Cell} {cause b : ℕ} {s : List ℕ} → r ≡ noCell cause b → b ≤ length s → Within r s
 none-within e l = record { at = omega (arith, ap (λ (x : Cell). x .at) e); end = omega (arith, ap (λ (x : Cell). x .end) e) }
 
--- what a word from b to e says as a value of a column
-abbrev cellOf : ℕ → ℕ → List ℕ → ℕ → Cell
-cellOf b e w c =
-    cond (isNumber w)
-    (cond (ltb (valueOf w) (least c)) (noCell 4 b)
-    (cond (ltb (most c) (valueOf w)) (noCell 5 b)
-    (record { cause = 0; at = b; end = e; value = valueOf w })))
-    (noCell 3 b)
-
 module _ {s : List ℕ} {at b e : ℕ} (f : Found s at b e) (c : ℕ) where
   -- the value of a column is what the word at its place says
-  number-of : cellOf b e (take (e - b) (drop b s)) c ≡ numberAt s at c
+  number-of : valueCell c b e (take (e - b) (drop b s)) ≡ numberAt s at c
   unfolding numberAt
   number-of =
-      ap₂ (λ (w : List ℕ) (k : ℕ). cellOf b k w c) (part-word f) (f .end)
-      ∙ ap (λ (n : ℕ). cellOf n (runEnd s n 1) (wordOf s n) c) (f .start)
+      ap₂ (λ (w : List ℕ) (k : ℕ). valueCell c b k w) (part-word f) (f .end)
+      ∙ ap (λ (n : ℕ). valueCell c n (runEnd s n 1) (wordOf s n)) (f .start)
 
   -- no number
   pub number-none : isNumber (take (e - b) (drop b s)) ≡ false → noCell 3 b ≡ numberAt s at c

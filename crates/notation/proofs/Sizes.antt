@@ -1,6 +1,6 @@
 -- How long the text of a table is: no row is empty, and the whole is below the longest text that is packed.
 use Prim.Native.Nat.{ℕ, _+_, _*_, _-_, _≤_}
-use mathlib.Core.Bool.{Bool, true, false, cond, _||_}
+use mathlib.Core.Bool.{_||_}
 use mathlib.Core.List.{List, _++_}
 use native.Mathlib.Omega.{arith}
 use lib.Dec.{eqb}
@@ -9,12 +9,8 @@ use Rattle.words.specs.Text.{text, decimal, newline, joined}
 use Rattle.words.proofs.Words.{joined-most, decimal-few}
 use Rattle.notation.specs.Columns.{name, width, fieldAt}
 use Rattle.notation.specs.Packing.{longest}
+use Rattle.notation.proofs.Naming.{chosen}
 use Rattle.notation.specs.Showing.{heading, padded, spacing, cellText, rowText, rowsText, tableText}
-
--- a choice of two texts is no longer than both
-choice-most : (b : Bool) (x y : List ℕ) (most : ℕ) → length x ≤ most → length y ≤ most → length (cond b x y) ≤ most
-choice-most true x y most h k = h
-choice-most false x y most h k = k
 
 -- ---- a cell
 
@@ -22,32 +18,28 @@ choice-most false x y most h k = k
 name-most : (c : ℕ) → length (name c) ≤ 8
 unfolding name
 name-most c =
-    choice-most (eqb c 0) _ _ 8 (omega arith)
-    (choice-most (eqb c 1) _ _ 8 (omega arith)
-    (choice-most (eqb c 2) _ _ 8 (omega arith)
-    (choice-most (eqb c 3) _ _ 8 (omega arith)
-    (choice-most (eqb c 4) _ _ 8 (omega arith)
-    (choice-most (eqb c 5) _ _ 8 (omega arith)
-    (choice-most (eqb c 6) _ _ 8 (omega arith)
-    (choice-most (eqb c 7) _ _ 8 (omega arith)
-    (choice-most (eqb c 8) _ _ 8 (omega arith)
-    (choice-most (eqb c 9) _ _ 8 (omega arith)
-    (choice-most (eqb c 10) _ _ 8 (omega arith) (omega arith)))))))))))
+    chosen (λ (x : List ℕ). length x ≤ 8) (eqb c 0) (omega arith)
+    (chosen (λ (x : List ℕ). length x ≤ 8) (eqb c 1) (omega arith)
+    (chosen (λ (x : List ℕ). length x ≤ 8) (eqb c 2) (omega arith)
+    (chosen (λ (x : List ℕ). length x ≤ 8) (eqb c 3) (omega arith)
+    (chosen (λ (x : List ℕ). length x ≤ 8) (eqb c 4) (omega arith)
+    (chosen (λ (x : List ℕ). length x ≤ 8) (eqb c 5) (omega arith)
+    (chosen (λ (x : List ℕ). length x ≤ 8) (eqb c 6) (omega arith)
+    (chosen (λ (x : List ℕ). length x ≤ 8) (eqb c 7) (omega arith)
+    (chosen (λ (x : List ℕ). length x ≤ 8) (eqb c 8) (omega arith)
+    (chosen (λ (x : List ℕ). length x ≤ 8) (eqb c 9) (omega arith)
+    (chosen (λ (x : List ℕ). length x ≤ 8) (eqb c 10) (omega arith) (omega arith)))))))))))
 
 -- a value is laid out over at most 7 digits
 width-most : (c : ℕ) → width c ≤ 7
 unfolding width
-width-most c = go (eqb c 2 || eqb c 8) (eqb c 0 || (eqb c 1 || eqb c 9)) (eqb c 7)
-  where
-    go : (p q r : Bool) → cond p 2 (cond q 3 (cond r 4 7)) ≤ 7
-    go true q r = omega arith
-    go false true r = omega arith
-    go false false true = omega arith
-    go false false false = omega arith
+width-most c =
+    chosen (λ (n : ℕ). n ≤ 7) (eqb c 2 || eqb c 8) (omega arith)
+    (chosen (λ (n : ℕ). n ≤ 7) (eqb c 0 || (eqb c 1 || eqb c 9)) (omega arith) (chosen (λ (n : ℕ). n ≤ 7) (eqb c 7) (omega arith) (omega arith)))
 
 -- what stands after a value
 spacing-most : (c : ℕ) → length (spacing c) ≤ 2
-spacing-most c = choice-most (eqb c 6 || eqb c 10) newline (text "  ") 2 (omega arith) (omega arith)
+spacing-most c = chosen (λ (x : List ℕ). length x ≤ 2) (eqb c 6 || eqb c 10) {x = newline} {y = text "  "} (omega arith) (omega arith)
 
 -- a cell has at most 38 bytes
 cell-most : (c v : ℕ) → length (cellText c v) ≤ 38

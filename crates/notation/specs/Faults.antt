@@ -41,9 +41,9 @@ opening cause =
     (cond (eqb cause 8) (text "sleep ")
     (cond (eqb cause 9) (text "run ")
     (cond (eqb cause 10) (text "deadline ")
-    (cond (leb cause 13) (text "task ")
     (cond (eqb cause 14) (text "use ")
-    (cond (eqb cause 15) (text "resource ") (text "the sections of task ")))))))
+    (cond (eqb cause 15) (text "resource ")
+    (cond (eqb cause 16) (text "the sections of task ") (text "task ")))))))
 
 unfoldable pub middle : ℕ → List ℕ
 middle cause =

@@ -12,16 +12,18 @@ use Rattle.notation.specs.Columns.{name, least, most, valueBytes}
 abbrev pub noCell : ℕ → ℕ → Cell
 noCell cause at = record { cause = cause; at = at; end = at; value = 0 }
 
--- the value of a column, from a place on: no number is cause 3, one below the column's range 4, above it 5
-unfoldable pub numberAt : List ℕ → ℕ → ℕ → Cell
-numberAt s at c =
-    let b = wordStart s at in
-    let v = valueOf (wordOf s b) in
-    cond (isNumber (wordOf s b))
-    (cond (ltb v (least c)) (noCell 4 b)
-    (cond (ltb (most c) v) (noCell 5 b)
-    (record { cause = 0; at = b; end = runEnd s b 1; value = v })))
+-- what a word that stands from b to e says as the value of a column: no number is cause 3, one below the column's range 4, above it 5
+abbrev pub valueCell : ℕ → ℕ → ℕ → List ℕ → Cell
+valueCell c b e w =
+    cond (isNumber w)
+    (cond (ltb (valueOf w) (least c)) (noCell 4 b)
+    (cond (ltb (most c) (valueOf w)) (noCell 5 b)
+    (record { cause = 0; at = b; end = e; value = valueOf w })))
     (noCell 3 b)
+
+-- the value of a column, from a place on
+unfoldable pub numberAt : List ℕ → ℕ → ℕ → Cell
+numberAt s at c = let b = wordStart s at in valueCell c b (runEnd s b 1) (wordOf s b)
 
 -- the name of a column and its value, from a place on: another word than the name is cause 2
 unfoldable pub cellAt : List ℕ → ℕ → ℕ → Cell
@@ -57,12 +59,14 @@ unfoldable pub cellsFrom : ℕ → List ℕ → ℕ → ℕ → Row
 cellsFrom zero s at c = rowEnd s (wordStart s at)
 cellsFrom (suc k) s at c = withCell c (cellAt s at c) (cellsFrom k s (cellAt s at c .end) (c + 1))
 
--- the line from a place on: empty, a task of kind 1, a use of kind 2, or cause 1
-unfoldable pub rowAt : List ℕ → ℕ → Row
-rowAt s at =
-    let b = wordStart s at in
-    let w = wordOf s b in
+-- a line by its first word, which starts at b: empty, a task of kind 1, a use of kind 2, or cause 1
+abbrev pub rowBy : List ℕ → ℕ → List ℕ → Row
+rowBy s b w =
     cond (eqb (length w) 0) (noRow 0 11 b)
     (cond (same w (name 0)) (after (1 ∷ []) (cellsFrom 7 s b 0))
     (cond (same w (name 7)) (after (2 ∷ []) (cellsFrom 4 s b 7))
     (noRow 1 11 b)))
+
+-- the line from a place on
+unfoldable pub rowAt : List ℕ → ℕ → Row
+rowAt s at = let b = wordStart s at in rowBy s b (wordOf s b)

@@ -91,10 +91,10 @@ fn put_opening(out: &mut [u8], at: usize, cause: u8, value: u64) -> usize
         8 => put(out, at, b"sleep ", value),
         9 => put(out, at, b"run ", value),
         10 => put(out, at, b"deadline ", value),
-        0..=13 => put(out, at, b"task ", value),
         14 => put(out, at, b"use ", value),
         15 => put(out, at, b"resource ", value),
-        _ => put(out, at, b"the sections of task ", value),
+        16 => put(out, at, b"the sections of task ", value),
+        _ => put(out, at, b"task ", value),
     }
 }
 

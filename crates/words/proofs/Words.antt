@@ -11,6 +11,7 @@ use borrow.Author.Tests.{lt-ltb, le-ltb, le-leb, eq-eqb, ne-eqb, eqb-true}
 use lib.Dec.{eqb}
 use lib.ListN.{length, take, drop, set, getD, length-append, drop-of-length-le}
 use lib.Seq.{drop-cons, take-all, take-length, paste, paste-suc}
+use Rattle.searches.proofs.Testing.{impossible}
 use Rattle.words.specs.Text.{text, digitsIn, decimal, joined}
 use Rattle.words.specs.Finding.{lead, inClass, digit, same, isNumber, withDigit, valueOn, valueOf, printable, printables, foundText}
 use Rattle.words.specs.Writing.{Put}
@@ -71,13 +72,13 @@ same-refl (b ∷ t) = rw (eq-eqb b b refl) (same-refl t)
 pub same-is : (s t : List ℕ) → same s t ≡ true → s ≡ t
 unfolding same
 same-is [] [] e = refl
-same-is [] (b ∷ t) e = absurd (let z : _≡_ {A = ℕ} 0 1 = cc in omega arith)
-same-is (a ∷ s) [] e = absurd (let z : _≡_ {A = ℕ} 0 1 = cc in omega arith)
+same-is [] (b ∷ t) e = absurd (impossible cc)
+same-is (a ∷ s) [] e = absurd (impossible cc)
 same-is (a ∷ s) (b ∷ t) e = go (eqb a b) refl e (same-is s t)
   where
     go : (x : Bool) → eqb a b ≡ x → x && same s t ≡ true → (same s t ≡ true → s ≡ t) → a ∷ s ≡ b ∷ t
     go true q f rest = ap₂ (λ (c : ℕ) (r : List ℕ). c ∷ r) (eqb-true a b q) (rest f)
-    go false q f rest = absurd (let z : _≡_ {A = ℕ} 0 1 = cc in omega arith)
+    go false q f rest = absurd (impossible cc)
 
 -- texts that differ in length differ
 pub same-sized : (s t : List ℕ) → (length s ≡ length t → ⊥) → same s t ≡ false

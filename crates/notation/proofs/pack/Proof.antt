@@ -7,43 +7,40 @@ use Rattle.notation.proofs.Packs.{count-is, pack-faulty, pack-short, pa
 use Rattle.notation.proofs.pack.Statement.{statement}
 use Rattle.notation.proofs.pack.Tie as tie
 
--- src/lib.rt:46:45
 slice-aggregate-pack-text : tie.Need-slice-aggregate-pack-text
 slice-aggregate-pack-text c = search needs
 
--- src/lib.rt:46:9
 pack-text-requires : tie.Need-pack-text-requires
 pack-text-requires c κs = search needs
 
--- src/lib.rt:47:25
 enum-known-packing : tie.Need-enum-known-packing
 enum-known-packing c = search needs
 
--- src/lib.rt:48:9
 enum-told : tie.Need-enum-told
 enum-told c = search needs
 
--- src/lib.rt:48:9
 returns : tie.Need-returns
 returns c = pack-faulty _ _ _ (c .before .before .before .pack-text .ensures) _ _ (c .enum-told .given .1)
 
--- src/lib.rt:51:9
 whole-requires : tie.Need-whole-requires
 whole-requires c κs = search needs
 
--- src/lib.rt:51:9
 returns-2 : tie.Need-returns-2
 returns-2 c = pack-short _ _ _ (c .before .before .before .before .before .before .pack-text .ensures) _ _ _ (c .before .before .before .packing .given .1) (c .before .if1 .taken) (c .whole .ensures)
 
--- src/lib.rt:53:17
 array-share-prefix-records : tie.Need-array-share-prefix-records
-array-share-prefix-records c = omega (arith, count-is _ _ _ (c .before .before .before .before .before .pack-text .ensures) _ (c .before .before .packing .given .1), c .before .before .before .before .before .pack-text .ensures .few, c .before .before .before .before .before .pack-text .kept .1 .0)
+array-share-prefix-records c =
+    let pack-text = c .before .before .before .before .before .pack-text in
+    let packing = c .before .before .packing in
+    omega (arith, count-is _ _ _ (pack-text .ensures) _ (packing .given .1), pack-text .ensures .few, pack-text .kept .1 .0)
 
--- src/lib.rt:53:17
 slice-aggregate-copy : tie.Need-slice-aggregate-copy
-slice-aggregate-copy c = sym (length-take-le _ _ (omega (arith, count-is _ _ _ (c .before .before .before .before .before .before .pack-text .ensures) _ (c .before .before .before .packing .given .1), c .before .before .before .before .before .before .pack-text .ensures .few, c .before .before .before .before .before .before .pack-text .kept .1 .0)))
+slice-aggregate-copy c =
+    let pack-text = c .before .before .before .before .before .before .pack-text in
+    let packing = c .before .before .before .packing in
+    sym
+    (length-take-le _ _ (omega (arith, count-is _ _ _ (pack-text .ensures) _ (packing .given .1), pack-text .ensures .few, pack-text .kept .1 .0)))
 
--- src/lib.rt:53:5
 copy-requires : tie.Need-copy-requires
 copy-requires c κs =
     let packs = c .before .before .before .before .before .before .before .pack-text in
@@ -54,13 +51,18 @@ copy-requires c κs =
       c .before .before .if1 .left,
     )
 
--- src/lib.rt:40:1
 same-length : tie.Need-same-length
 same-length c = search needs
 
--- src/lib.rt:40:1
 returns-3 : tie.Need-returns-3
-returns-3 c = pack-fine _ _ _ (c .before .before .before .before .before .before .before .before .before .before .pack-text .ensures) _ _ _ (c .before .before .before .before .before .before .before .packing .given .1) (omega (arith, c .before .before .before .before .before .if1 .left)) (omega (arith, count-is _ _ _ (c .before .before .before .before .before .before .before .before .before .before .pack-text .ensures) _ (c .before .before .before .before .before .before .before .packing .given .1), c .before .before .before .before .before .before .before .before .before .before .pack-text .ensures .few, c .before .before .before .before .before .before .before .before .before .before .pack-text .kept .1 .0)) (c .before .before .copy .ensures .1)
+returns-3 c =
+    let pack-text = c .before .before .before .before .before .before .before .before .before .before .pack-text in
+    let packing = c .before .before .before .before .before .before .before .packing in
+    let first-test = c .before .before .before .before .before .if1 in
+    let copy = c .before .before .copy in
+    pack-fine _ _ _ (pack-text .ensures) _ _ _ (packing .given .1) (omega (arith, first-test .left))
+    (omega (arith, count-is _ _ _ (pack-text .ensures) _ (packing .given .1), pack-text .ensures .few, pack-text .kept .1 .0))
+    (copy .ensures .1)
 
 pub pack-spec : {M : Type 1} → statement M
 pack-spec =

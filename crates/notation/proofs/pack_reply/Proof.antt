@@ -32,13 +32,26 @@ same-length : tie.Need-same-length
 same-length c = search needs
 
 returns-2 : tie.Need-returns-2
-returns-2 c = fitted-put 8192 (c .before .before .before .before .before .before .before .before .before .before .args .out .now) _ _ _ _ (c .before .before .before .before .before .before .before .if1 .left) refl (reply-packed (c .before .before .before .before .before .before .before .before .before .before .args .text .now) (c .before .before .before .before .before .before .before .before .before .before .args .out .now) _ _ (c .before .before .before .before .before .before .before .if1 .left) (c .before .before .before .before .before .pack .ensures) _ (c .before .count .given .1))
+returns-2 c =
+    let entry = c .before .before .before .before .before .before .before .before .before .before in
+    let first-test = c .before .before .before .before .before .before .before .if1 in
+    let pack = c .before .before .before .before .before .pack in
+    let count = c .before .count in
+    fitted-put 8192 (entry .args .out .now) _ _ _ _ (first-test .left) refl
+    (reply-packed (entry .args .text .now) (entry .args .out .now) _ _ (first-test .left) (pack .ensures) _ (count .given .1))
 
 same-length-2 : tie.Need-same-length-2
 same-length-2 c = search needs
 
 returns-3 : tie.Need-returns-3
-returns-3 c = fitted-put 8192 (c .before .before .before .before .before .before .before .before .before .before .before .before .before .before .args .out .now) _ _ _ _ (c .before .before .before .before .before .before .before .before .before .before .before .if1 .left) refl (reply-faulty (c .before .before .before .before .before .before .before .before .before .before .before .before .before .before .args .text .now) (c .before .before .before .before .before .before .before .before .before .before .before .before .before .before .args .out .now) _ _ (c .before .before .before .before .before .before .before .before .before .before .before .if1 .left) (c .before .before .before .before .before .before .before .before .before .pack .ensures) _ _ _ (c .before .before .before .before .before .fault .given .1) (c .before .before .put-fault .ensures))
+returns-3 c =
+    let entry = c .before .before .before .before .before .before .before .before .before .before .before .before .before .before in
+    let first-test = c .before .before .before .before .before .before .before .before .before .before .before .if1 in
+    let pack = c .before .before .before .before .before .before .before .before .before .pack in
+    let fault = c .before .before .before .before .before .fault in
+    let put-fault = c .before .before .put-fault in
+    fitted-put 8192 (entry .args .out .now) _ _ _ _ (first-test .left) refl
+    (reply-faulty (entry .args .text .now) (entry .args .out .now) _ _ (first-test .left) (pack .ensures) _ _ _ (fault .given .1) (put-fault .ensures))
 
 pub pack-reply-spec : {M : Type 1} → statement M
 pack-reply-spec =

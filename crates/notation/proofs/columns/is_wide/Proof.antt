@@ -11,7 +11,12 @@ returns c = rw (lt-leb 3 (c .before .before .args .column) (c .if1 .taken), ne-e
 
 returns-2 : tie.Need-returns-2
 unfolding wide
-returns-2 c = rw (le-leb 3 (c .before .before .before .args .column) (c .before .if1 .left), lt-leb (c .before .before .before .args .column) 6 (c .if2 .left), ne-eqb (c .before .before .before .args .column) 10 (c .before .before .match .rest .1))
+returns-2 c =
+    let entry = c .before .before .before in
+    let match = c .before .before .match in
+    let first-test = c .before .if1 in
+    rw
+    (le-leb 3 (entry .args .column) (first-test .left), lt-leb (entry .args .column) 6 (c .if2 .left), ne-eqb (entry .args .column) 10 (match .rest .1))
 
 returns-3 : tie.Need-returns-3
 unfolding wide

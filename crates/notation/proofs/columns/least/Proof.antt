@@ -10,11 +10,19 @@ use Rattle.notation.proofs.columns.least.Tie as tie
 
 returns : tie.Need-returns
 unfolding least
-returns c = rw (ne-eqb (c .before .before .args .column) 1 (λ e. omega arith), ne-eqb (c .before .before .args .column) 2 (λ e. omega arith), ne-eqb (c .before .before .args .column) 4 (c .before .match .rest .1))
+returns c =
+    let entry = c .before .before in
+    let match = c .before .match in
+    rw
+    (ne-eqb (entry .args .column) 1 (λ e. omega arith), ne-eqb (entry .args .column) 2 (λ e. omega arith), ne-eqb (entry .args .column) 4 (match .rest .1))
 
 returns-2 : tie.Need-returns-2
 unfolding least
-returns-2 c = rw (ne-eqb (c .before .before .before .args .column) 1 (λ e. omega arith), ne-eqb (c .before .before .before .args .column) 2 (λ e. omega arith), ne-eqb (c .before .before .before .args .column) 4 (c .before .before .match .rest .1))
+returns-2 c =
+    let entry = c .before .before .before in
+    let match = c .before .before .match in
+    rw
+    (ne-eqb (entry .args .column) 1 (λ e. omega arith), ne-eqb (entry .args .column) 2 (λ e. omega arith), ne-eqb (entry .args .column) 4 (match .rest .1))
 
 returns-3 : tie.Need-returns-3
 unfolding least

@@ -151,7 +151,9 @@ unfolding name
 returns-11 c = (rw (c .before .before .before .before .before .match .keys11) (c .before .before .put-text11 .ensures), omega (arith, c .before .before .put-text11 .ensures .end))
 
 returns-12 : tie.Need-returns-12
-returns-12 c = (rw (name-else (c .before .before .args .column) (not-among 0 11 (c .before .before .args .column) (c .match .rest))) (put-none (c .before .before .args .out .now) (c .before .before .args .at)), omega arith)
+returns-12 c =
+    let entry = c .before .before in
+    (rw (name-else (entry .args .column) (not-among 0 11 (entry .args .column) (c .match .rest))) (put-none (entry .args .out .now) (entry .args .at)), omega arith)
 
 pub put-name-spec : {M : Type 1} → statement M
 put-name-spec =

@@ -35,7 +35,9 @@ returns-2 c = (rw (c .before .before .before .before .before .match .keys2) (c .
 
 returns-3 : tie.Need-returns-3
 unfolding closing
-returns-3 c = (rw (ne-eqb (c .before .before .args .cause) 12 (c .match .rest .0 .1), ne-eqb (c .before .before .args .cause) 15 (c .match .rest .1)) (put-none (c .before .before .args .out .now) (c .before .before .args .at)), omega arith)
+returns-3 c =
+    let entry = c .before .before in
+    (rw (ne-eqb (entry .args .cause) 12 (c .match .rest .0 .1), ne-eqb (entry .args .cause) 15 (c .match .rest .1)) (put-none (entry .args .out .now) (entry .args .at)), omega arith)
 
 pub put-closing-spec : {M : Type 1} → statement M
 put-closing-spec =

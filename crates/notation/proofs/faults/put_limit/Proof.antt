@@ -36,18 +36,28 @@ same-length c = search needs
 
 returns : tie.Need-returns
 unfolding limit
-returns c = (rw (c .before .before .before .before .before .before .match .keys1, ← c .before .before .before .least .ensures) (c .before .before .put .ensures .0), omega (arith, c .before .before .put .ensures .1))
+returns c =
+    let match = c .before .before .before .before .before .before .match in
+    let least = c .before .before .before .least in
+    let put = c .before .before .put in
+    (rw (match .keys1, ← least .ensures) (put .ensures .0), omega (arith, put .ensures .1))
 
 same-length-2 : tie.Need-same-length-2
 same-length-2 c = search needs
 
 returns-2 : tie.Need-returns-2
 unfolding limit
-returns-2 c = (rw (c .before .before .before .before .before .before .match .keys2, ← c .before .before .before .most .ensures) (c .before .before .put2 .ensures .0), omega (arith, c .before .before .put2 .ensures .1))
+returns-2 c =
+    let match = c .before .before .before .before .before .before .match in
+    let most = c .before .before .before .most in
+    let put2 = c .before .before .put2 in
+    (rw (match .keys2, ← most .ensures) (put2 .ensures .0), omega (arith, put2 .ensures .1))
 
 returns-3 : tie.Need-returns-3
 unfolding limit
-returns-3 c = (rw (ne-eqb (c .before .before .args .cause) 4 (c .match .rest .0 .1), ne-eqb (c .before .before .args .cause) 5 (c .match .rest .1)) (put-none (c .before .before .args .out .now) (c .before .before .args .at)), omega arith)
+returns-3 c =
+    let entry = c .before .before in
+    (rw (ne-eqb (entry .args .cause) 4 (c .match .rest .0 .1), ne-eqb (entry .args .cause) 5 (c .match .rest .1)) (put-none (entry .args .out .now) (entry .args .at)), omega arith)
 
 pub put-limit-spec : {M : Type 1} → statement M
 put-limit-spec =

@@ -133,7 +133,11 @@ same-length-10 : tie.Need-same-length-10
 same-length-10 c = search needs
 
 returns-10 : tie.Need-returns-10
-returns-10 c = (rw (middle-else (c .before .before .before .before .before .before .before .args .cause) (not-among 7 9 (c .before .before .before .before .before .before .before .args .cause) (c .before .before .before .before .before .match .rest))) (c .before .before .put10 .ensures .0), omega (arith, c .before .before .put10 .ensures .1))
+returns-10 c =
+    let entry = c .before .before .before .before .before .before .before in
+    let match = c .before .before .before .before .before .match in
+    let tenth = c .before .before .put10 in
+    (rw (middle-else (entry .args .cause) (not-among 7 9 (entry .args .cause) (match .rest))) (tenth .ensures .0), omega (arith, tenth .ensures .1))
 
 pub put-middle-spec : {M : Type 1} → statement M
 put-middle-spec =

@@ -2,7 +2,7 @@
 use native.Mathlib.Omega.{arith}
 use borrow.Author.Needs.{needs}
 use Rattle.notation.specs.Faults.{opening}
-use Rattle.notation.proofs.Naming.{opening-task, opening-past}
+use Rattle.notation.proofs.Naming.{opening-else}
 use Rattle.notation.proofs.faults.put_opening.Statement.{statement}
 use Rattle.notation.proofs.faults.put_opening.Tie as tie
 
@@ -100,13 +100,16 @@ same-length-7 : tie.Need-same-length-7
 same-length-7 c = search needs
 
 returns-7 : tie.Need-returns-7
-returns-7 c = (rw (opening-task (c .before .before .before .before .before .before .before .before .args .cause) (omega arith) (λ l g. omega arith)) (c .before .before .put7 .ensures .0), omega (arith, c .before .before .put7 .ensures .1))
+unfolding opening
+returns-7 c = (rw (c .before .before .before .before .before .match .keys7) (c .before .before .put7 .ensures .0), omega (arith, c .before .before .put7 .ensures .1))
 
 same-length-8 : tie.Need-same-length-8
 same-length-8 c = search needs
 
 returns-8 : tie.Need-returns-8
-returns-8 c = (rw (opening-past (c .before .before .before .before .before .before .before .before .args .cause) (omega arith)) (c .before .before .put8 .ensures .0), omega (arith, c .before .before .put8 .ensures .1))
+returns-8 c =
+    let known = c .before .before .before .before .before .match .rest in
+    (rw (opening-else (c .before .before .before .before .before .before .before .args .cause) known) (c .before .before .put8 .ensures .0), omega (arith, c .before .before .put8 .ensures .1))
 
 pub put-opening-spec : {M : Type 1} → statement M
 put-opening-spec =

@@ -43,7 +43,11 @@ same-length-3 c = search needs
 
 returns-3 : tie.Need-returns-3
 unfolding wholeText
-returns-3 c = (rw (ne-eqb (c .before .before .before .before .before .before .before .args .cause) 17 (c .before .before .before .before .before .match .rest .0 .1), ne-eqb (c .before .before .before .before .before .before .before .args .cause) 18 (c .before .before .before .before .before .match .rest .1)) (c .before .before .put-text3 .ensures), omega (arith, c .before .before .put-text3 .ensures .end))
+returns-3 c =
+    let entry = c .before .before .before .before .before .before .before in
+    let match = c .before .before .before .before .before .match in
+    let put-text3 = c .before .before .put-text3 in
+    (rw (ne-eqb (entry .args .cause) 17 (match .rest .0 .1), ne-eqb (entry .args .cause) 18 (match .rest .1)) (put-text3 .ensures), omega (arith, put-text3 .ensures .end))
 
 pub put-whole-spec : {M : Type 1} → statement M
 put-whole-spec =

@@ -34,7 +34,10 @@ put-value-requires c κs =
     omega (arith, c .before .before .before .before .before .before .before .before .pre .3, here .most, here .low, here .sized, c .before .before .before .before .loop-test .taken)
 
 add-column : tie.Need-add-column Inv-loop μ-loop
-add-column c = omega (arith, c .before .before .before .before .before .before .before .loop-test .taken, c .before .before .before .before .before .before .before .before .before .before .before .pre .2)
+add-column c =
+    let entry = c .before .before .before .before .before .before .before .before .before .before .before in
+    let loop-test = c .before .before .before .before .before .before .before .loop-test in
+    omega (arith, loop-test .taken, entry .pre .2)
 
 loop-less : tie.Need-loop-less Inv-loop μ-loop
 loop-less c = omega (arith, c .before .before .before .before .before .before .before .loop-test .taken)
