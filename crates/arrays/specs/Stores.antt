@@ -2,8 +2,8 @@
 use mathlib.Core.Path.{_≡_}
 use mathlib.Core.List.{List}
 use mathlib.Core.Bool.{Bool, true, cond, _&&_}
-use Prim.Native.Nat.{ℕ, suc, _+_, _≤_, _<_}
-use lib.Dec.{ltb, leb, eqb}
+use Prim.Native.Nat.{ℕ, suc, _≤_, _<_}
+use lib.Dec.{ltb, eqb}
 use lib.ListN.{length, getD, set}
 use Rattle.searches.specs.Searches.{Place, nowhere, at}
 use Rattle.protocol.specs.Acting.{oneMore}

@@ -12,7 +12,6 @@ use Rattle.table.specs.declared.Reading.the-variants.{Accepted, Refused}
 use Rattle.table.specs.Reading.{readTable}
 use Rattle.table.proofs.Accepted.{well-formed}
 use Rattle.table.proofs.Decided.{front-decides}
-use Rattle.analysis.specs.declared.Analysis.{Analysis}
 use Rattle.analysis.specs.Analysing.{refusedBy, analysedAs}
 use Rattle.lines.specs.Lines.{taskLines, linesOf, printed}
 

@@ -1,7 +1,7 @@
 -- The lines that the bounds program prints.
 use Prim.Native.Nat.{ℕ, zero, suc}
 use mathlib.Core.Bool.{Bool, true, false, cond}
-use mathlib.Core.List.{List, [], _∷_, _++_}
+use mathlib.Core.List.{List, [], _++_}
 use lib.Dec.{ltb}
 use Rattle.table.specs.declared.Task.{Task}
 use Rattle.table.specs.WellFormed.{taskOf}

@@ -1,13 +1,11 @@
 -- What a text is packed as: an accepted table with the count of its bytes, or a fault and no bytes; and so many bytes decide any text.
 use Prim.Native.Nat.{ℕ, zero, suc, _+_, _≤_, _<_}
-use mathlib.Core.Path.{_≡_, refl, sym, ap, _∙_}
+use mathlib.Core.Path.{_≡_, refl, ap}
 use mathlib.Core.Bool.{Bool, true, false, cond}
 use mathlib.Core.List.{List, [], _∷_, _++_}
 use native.Mathlib.Omega.{arith}
-use native.Mathlib.Decide.{decLe}
 use lib.Dec.{ltb, leb, eqb}
-use lib.ListN.{length, take}
-use lib.Seq.{take-all, length-take-le}
+use lib.ListN.{length}
 use borrow.Author.Tests.{lt-ltb}
 use Rattle.searches.proofs.Testing.{impossible}
 use Rattle.table.specs.declared.Shape.{Shape}

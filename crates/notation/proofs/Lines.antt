@@ -4,10 +4,9 @@ use mathlib.Core.Path.{_≡_, refl, sym, ap, subst, _∙_}
 use mathlib.Core.Bool.{Bool, cond}
 use mathlib.Core.List.{List, [], _∷_, _++_, append-nil}
 use native.Mathlib.Omega.{arith}
-use lib.ListN.{length, take, length-append}
+use lib.ListN.{length, take}
 use borrow.Author.Tests.{ne-eqb, le-leb, lt-leb, le-ltb, lt-ltb}
 use Rattle.table.specs.Reading.{readTable}
-use Rattle.words.specs.Writing.{Put}
 use Rattle.words.specs.Finding.{runEnd}
 use Rattle.words.proofs.Puts.{put-front, put-length}
 use Rattle.notation.specs.declared.Packing.{Packing}
@@ -17,9 +16,9 @@ use Rattle.notation.specs.declared.stepping.Turn.{Turn}
 use Rattle.notation.specs.declared.stepping.Turn.the-variants.{Next, Last}
 use Rattle.notation.specs.declared.rows.Taken.{Taken}
 use Rattle.notation.specs.Rows.{Row, rowAt}
-use Rattle.notation.specs.Taking.{takenBy, TakenPut}
-use Rattle.notation.specs.Packing.{longest, Outcome, faulty, whole, Step, on, over, past, judged, lineStep, endOf, stepAt, onward, packFrom, start, packText}
-use Rattle.notation.specs.Stepping.{Ready, Judgeable, WentOn, Stepped, PackedTo, judgedOf}
+use Rattle.notation.specs.Taking.{TakenPut}
+use Rattle.notation.specs.Packing.{longest, Outcome, whole, Step, on, over, judged, lineStep, endOf, stepAt, onward, packFrom, start, packText}
+use Rattle.notation.specs.Stepping.{Ready, Judgeable, Stepped, PackedTo, judgedOf}
 use Rattle.notation.proofs.Steps.{whole-to}
 use Rattle.notation.proofs.Froms.{row-from}
 

@@ -1,5 +1,5 @@
 -- Laws for the steps of packing: the records so far with an end behind them, and what the reader says of them.
-use Prim.Native.Nat.{ℕ, suc, _+_, _*_, _≤_, _<_}
+use Prim.Native.Nat.{ℕ, _+_, _*_, _≤_, _<_}
 use mathlib.Core.Path.{_≡_, refl, sym, ap, subst, _∙_}
 use mathlib.Core.List.{List, [], _∷_, _++_}
 use native.Mathlib.Numerals.{add-one}
@@ -11,7 +11,6 @@ use Rattle.table.specs.declared.Reading.the-variants.{Accepted, Refused}
 use Rattle.table.specs.declared.Refusal.{Refusal}
 use Rattle.table.specs.declared.Shape.{Shape}
 use Rattle.table.specs.Reading.{readTable}
-use Rattle.table.specs.WellFormed.{WellFormed}
 use Rattle.table.proofs.Accepted.{well-formed}
 use Rattle.words.specs.Finding.{runEnd}
 use Rattle.notation.specs.declared.Packing.{Packing}
@@ -20,7 +19,8 @@ use Rattle.notation.specs.declared.stepping.Position.{Position}
 use Rattle.notation.specs.declared.stepping.Turn.the-variants.{Next, Last}
 use Rattle.notation.specs.declared.rows.Taken.{Taken}
 use Rattle.notation.specs.declared.reasons.Reason.{Reason}
-use Rattle.notation.specs.Packing.{Outcome, whole, packed, ended, endOf, judged, reasonAt}
+use Rattle.notation.specs.Packing.{Outcome, whole, packed, ended, endOf, judged}
+use Rattle.notation.specs.Reasons.{reasonAt}
 use Rattle.notation.specs.Stepping.{Ready, Judgeable, Stepped, PackedTo, judgedOf}
 
 -- an end behind the first n bytes of a buffer

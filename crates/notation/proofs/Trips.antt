@@ -11,9 +11,9 @@ use borrow.Author.Tests.{le-ltb}
 use Rattle.table.specs.declared.Shape.{Shape}
 use Rattle.table.specs.declared.Reading.{Reading}
 use Rattle.table.specs.declared.Reading.the-variants.{Accepted}
-use Rattle.table.specs.Fields.{taskAt, useAt}
+use Rattle.table.specs.Fields.{taskAt}
 use Rattle.table.specs.Reading.{readTable}
-use Rattle.table.specs.WellFormed.{useOf, userOf, TaskInRange, UseInRange, WellFormed}
+use Rattle.table.specs.WellFormed.{useOf, userOf, TaskInRange, WellFormed}
 use Rattle.table.proofs.Laws.{place-has}
 use Rattle.table.proofs.Accepted.{well-formed}
 use Rattle.table.proofs.Prefixes.{prefix-accepted}

@@ -1,62 +1,23 @@
 -- What a text is packed as: line by line, the first at fault decides.
-use Prim.Native.Nat.{ℕ, zero, suc, _+_, _*_, _-_}
-use mathlib.Core.Bool.{cond, _&&_}
+use Prim.Native.Nat.{ℕ, zero, suc, _+_}
+use mathlib.Core.Bool.{cond}
 use mathlib.Core.List.{List, [], _∷_, _++_}
 use lib.Dec.{ltb, leb, eqb}
-use lib.ListN.{length, getD}
+use lib.ListN.{length}
 use Rattle.table.specs.declared.Reading.{Reading}
 use Rattle.table.specs.declared.Reading.the-variants.{Accepted, Refused}
-use Rattle.table.specs.declared.Task.{Task}
-use Rattle.table.specs.declared.Use.{Use}
-use Rattle.table.specs.Fields.{wordAt, taskAt, useAt}
-use Rattle.table.specs.Rules.{placeFrom}
 use Rattle.table.specs.Reading.{readTable}
 use Rattle.words.specs.Finding.{nextLine}
 use Rattle.notation.specs.declared.Fault.{Fault}
 use Rattle.notation.specs.declared.Packing.{Packing}
 use Rattle.notation.specs.declared.Packing.the-variants.{Packed, Faulty}
-use Rattle.notation.specs.declared.reasons.Reason.{Reason}
 use Rattle.notation.specs.declared.stepping.Position.{Position}
 use Rattle.notation.specs.Rows.{rowAt}
+use Rattle.notation.specs.Reasons.{reasonAt}
 
 -- the longest text that is packed
 abbrev pub longest : ℕ
 longest = 262144
-
--- ---- why the reader refuses a record, in words of the line
-
--- a rule that is broken, and the two values that show it
-abbrev pub reason : ℕ → ℕ → ℕ → Reason
-reason cause value other = record { cause = cause; value = value; other = other }
-
--- a task's fields: 7 setting not below the priority, 8 a sleep without sleeps, 9 run above the deadline, 10 deadline above the period
-unfoldable pub rangeReason : Task → Reason
-rangeReason t =
-    cond (leb (t .priority) (t .setting)) (reason 7 (t .setting) (t .priority))
-    (cond (eqb (t .sleeps) 0 && ltb 0 (t .sleep)) (reason 8 (t .sleep) 0)
-    (cond (ltb (t .deadline) (t .run)) (reason 9 (t .run) (t .deadline))
-    (reason 10 (t .deadline) (t .period))))
-
--- the task record that starts at a place, after n tasks: 11 one too many, 12 after a use, 13 not below the last, or its fields
-unfoldable pub taskReason : List ℕ → ℕ → ℕ → ℕ → Reason
-taskReason s at n number =
-    cond (eqb number 4) (reason 11 (getD s (at + 1) 0) 32)
-    (cond (eqb number 3)
-    (cond (ltb (20 * n) at) (reason 12 (getD s (at + 1) 0) (getD s (at - 7) 0)) (reason 13 (getD s (at + 1) 0) (getD s (at - 19) 0)))
-    (rangeReason (taskAt s at)))
-
--- the use record that starts at a place, after n tasks: 16 past the run time of its task, 14 of no task, 15 out of order
-unfoldable pub useReason : List ℕ → ℕ → ℕ → ℕ → Reason
-useReason s at n number =
-    let p = getD s (at + 1) 0 in
-    cond (eqb number 6) (reason 16 p (wordAt s (20 * placeFrom n s 0 p + 4)))
-    (cond (leb n (placeFrom n s 0 p)) (reason 14 p p) (reason 15 (getD s (at + 2) 0) p))
-
--- the record that starts at a place, by its kind
-abbrev pub reasonAt : List ℕ → ℕ → ℕ → ℕ → Reason
-reasonAt s at n number = cond (eqb (getD s at 0) 1) (taskReason s at n number) (useReason s at n number)
-
--- ---- what pack answers
 
 -- what is answered of a text, and the bytes of its table: none where it has a fault
 pub record Outcome : Type 0 where

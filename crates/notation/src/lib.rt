@@ -1,6 +1,5 @@
 // The text form of a table: the text of a table's bytes, and the bytes of a text.
 ghost use mathlib.Core.Path.{_≡_};
-ghost use Prim.Native.Nat.{_≤_};
 ghost use mathlib.Core.List.{_++_};
 ghost use lib.ListN.{length, drop};
 ghost use Rattle.io.specs.Counts.{Counts};
@@ -20,7 +19,7 @@ mod stepping;
 use table::Reading;
 use words::put_refusal;
 
-// A fault of a text: its line, its cause by number, and what the cause speaks of: a column, the place of a word, two values.
+// A fault of a text: its line, its cause by its number in docs/NOTATION.md, and what that speaks of: a column, the place of a word, two values.
 pub struct Fault {
     pub line: usize,
     pub cause: u8,

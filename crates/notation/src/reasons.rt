@@ -2,7 +2,7 @@
 ghost use mathlib.Core.Path.{_≡_};
 ghost use Prim.Native.Nat.{_+_, _*_, _-_, _≤_};
 ghost use lib.ListN.{length};
-ghost use Rattle.notation.specs.Packing.{reason, rangeReason, taskReason, useReason, reasonAt};
+ghost use Rattle.notation.specs.Reasons.{reason, rangeReason, taskReason, useReason, reasonAt};
 use table::Task;
 use table::byte_at;
 

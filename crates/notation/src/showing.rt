@@ -1,11 +1,8 @@
 // The text of a table, in columns.
 ghost use Prim.Native.Nat.{_+_, _*_, _-_, _≤_};
-ghost use mathlib.Core.List.{_++_};
 ghost use lib.ListN.{length};
-ghost use Rattle.words.specs.Text.{joined};
 ghost use Rattle.words.specs.Writing.{Put};
-ghost use Rattle.notation.specs.Columns.{fieldAt};
-ghost use Rattle.notation.specs.Showing.{heading, padded, spacing, cellText, rowText, rowsText, tableText};
+ghost use Rattle.notation.specs.Showing.{padded, spacing, cellText, rowText, rowsText, tableText};
 use crate::columns::field_at;
 use crate::columns::put_name;
 use crate::columns::width;

@@ -14,7 +14,6 @@ use borrow.Author.Tests.{lt-ltb, le-ltb, le-leb}
 use Rattle.searches.specs.Searches.{only}
 use Rattle.protocol.specs.State.{Status, none, ready, waiting, asleep, Section}
 use Rattle.protocol.specs.Acting.{section}
-use Rattle.searches.specs.Indexed.{every}
 use Rattle.searches.proofs.Indexed.{listed}
 use Rattle.arrays.specs.View.{statusOf, countOf, sectionsBy}
 use Rattle.arrays.proofs.Opened.{sections-length}

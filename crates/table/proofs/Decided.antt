@@ -1,7 +1,7 @@
 -- The front of the bytes decides: an input is read as its first 8,192 bytes are, or as any longer front of it.
 use Prim.Native.Nat.{ℕ, zero, suc, _+_, _*_, _-_, _≤_, _<_}
 use mathlib.Core.Path.{_≡_, refl, sym, ap, _∙_}
-use mathlib.Core.List.{List, _++_}
+use mathlib.Core.List.{List}
 use lib.ListN.{getD, length, take, drop, take-append-drop, length-take, List·getD-append}
 use lib.Seq.{take-all}
 use native.Mathlib.Omega.{arith}

@@ -1,5 +1,5 @@
 -- The first records of an accepted table, with an end, are accepted: its first tasks, or all its tasks and its first uses.
-use Prim.Native.Nat.{ℕ, zero, suc, _+_, _*_, _≤_, _<_}
+use Prim.Native.Nat.{ℕ, _+_, _*_, _≤_, _<_}
 use mathlib.Core.Path.{_≡_, refl, sym, ap, ap₂, subst, _∙_}
 use mathlib.Core.Bool.{cond}
 use mathlib.Core.List.{List, [], _∷_, _++_}
@@ -15,7 +15,6 @@ use Rattle.table.specs.declared.Shape.{Shape}
 use Rattle.table.specs.declared.Task.{Task}
 use Rattle.table.specs.declared.Use.{Use}
 use Rattle.table.specs.declared.Reading.the-variants.{Accepted}
-use Rattle.table.specs.Fields.{wordAt, taskAt, useAt}
 use Rattle.table.specs.Rules.{placeFrom}
 use Rattle.table.specs.Reading.{readTable}
 use Rattle.table.specs.WellFormed.{taskOf, useOf, userOf, sectionsBy, TaskInRange, UseInRange, WellFormed}

@@ -1,5 +1,4 @@
 // Words and numbers: put into a lent buffer, and found in a text.
-ghost use mathlib.Core.Path.{_≡_};
 ghost use Prim.Native.Nat.{_≤_};
 ghost use lib.ListN.{length};
 ghost use Rattle.words.specs.Refusing.{refusalLine};

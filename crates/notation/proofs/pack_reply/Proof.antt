@@ -1,12 +1,11 @@
 -- `notation::pack_reply` meets its contract.
 use mathlib.Core.List.{[]}
-use mathlib.Core.Path.{refl, ap, sym}
-use native.Mathlib.Omega.{arith}
+use mathlib.Core.Path.{refl}
 use borrow.Author.Needs.{needs}
 use borrow.Author.Tests.{lt-ltb}
 use lib.ListN.{length}
 use Rattle.words.proofs.Puts.{put-none, put-counts}
-use Rattle.notation.proofs.Packs.{reply-packed, reply-kept, reply-faulty}
+use Rattle.notation.proofs.Packs.{reply-packed, reply-faulty}
 use Rattle.notation.proofs.Showings.{fitted-put}
 use Rattle.notation.proofs.pack_reply.Statement.{statement}
 use Rattle.notation.proofs.pack_reply.Tie as tie

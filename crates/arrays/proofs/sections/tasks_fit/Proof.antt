@@ -1,8 +1,7 @@
 -- `arrays::sections::tasks_fit` meets its contract.
 use Prim.Native.Nat.{_-_, _≤_}
 use borrow.Author.Tests.{le-leb, lt-leb}
-use mathlib.Core.Path.{_≡_, refl, sym, _∙_}
-use mathlib.Core.Bool.{_&&_}
+use mathlib.Core.Path.{_≡_, refl}
 use native.Mathlib.Omega.{arith}
 use Rattle.searches.specs.Searches.{all}
 use Rattle.searches.proofs.Searching.{all-more}

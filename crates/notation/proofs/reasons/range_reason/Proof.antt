@@ -2,7 +2,7 @@
 use borrow.Author.Needs.{needs}
 use borrow.Author.Tests.{le-leb, lt-leb, lt-ltb, le-ltb}
 use mathlib.Core.Path.{_∙_}
-use Rattle.notation.specs.Packing.{rangeReason}
+use Rattle.notation.specs.Reasons.{rangeReason}
 use Rattle.notation.proofs.reasons.range_reason.Statement.{statement}
 use Rattle.notation.proofs.reasons.range_reason.Tie as tie
 

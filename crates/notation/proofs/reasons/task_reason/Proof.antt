@@ -4,7 +4,7 @@ use borrow.Author.Needs.{needs}
 use borrow.Author.Tests.{eq-eqb, ne-eqb, lt-ltb, le-ltb}
 use lib.ListN.{getD}
 use mathlib.Core.Path.{ap, ap₂, _∙_}
-use Rattle.notation.specs.Packing.{reason, rangeReason, taskReason}
+use Rattle.notation.specs.Reasons.{reason, rangeReason, taskReason}
 use Rattle.notation.proofs.reasons.task_reason.Statement.{statement}
 use Rattle.notation.proofs.reasons.task_reason.Tie as tie
 

@@ -9,7 +9,7 @@ use native.Mathlib.Omega.{arith}
 use Rattle.table.specs.Fields.{wordAt}
 use Rattle.table.specs.Rules.{placeFrom}
 use Rattle.table.proofs.Laws.{place-most}
-use Rattle.notation.specs.Packing.{reason, useReason}
+use Rattle.notation.specs.Reasons.{reason, useReason}
 use Rattle.notation.proofs.reasons.use_reason.Statement.{statement}
 use Rattle.notation.proofs.reasons.use_reason.Tie as tie
 

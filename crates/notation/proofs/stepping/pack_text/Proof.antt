@@ -3,7 +3,7 @@ use Prim.Native.Nat.{_+_, _-_}
 use borrow.Author.Needs.{needs}
 use native.Mathlib.Omega.{arith}
 use lib.ListN.{length}
-use mathlib.Core.Path.{_≡_, refl, sym, _∙_}
+use mathlib.Core.Path.{_≡_, refl, _∙_}
 use Rattle.notation.proofs.Lines.{Going, go-start, go-long, go-end, go-on, go-last}
 use Rattle.notation.proofs.stepping.pack_text.Statement.{statement}
 use Rattle.notation.proofs.stepping.pack_text.Tie as tie

@@ -1,9 +1,8 @@
 -- `scheduler::Scheduler::settled` meets its contract.
 use borrow.Author.Needs.{needs}
-use mathlib.Core.Path.{_≡_, ap, _∙_}
-use Rattle.protocol.specs.Running.{aboveSystem, running}
+use mathlib.Core.Path.{ap, _∙_}
+use Rattle.protocol.specs.Running.{running}
 use Rattle.arrays.specs.Stores.{startedAt}
-use Rattle.scheduler.specs.View.{tableOf, entryOf}
 use Rattle.scheduler.specs.Replies.{withStarted}
 use Rattle.scheduler.proofs.Viewing.{running-view}
 use Rattle.scheduler.proofs.Ends.{runs-shown}
