@@ -39,9 +39,11 @@ use Rattle.notation.specs.declared.Packing.the-variants.{Packed, Faulty}
 use Rattle.notation.specs.Packing.{packed, packText}
 use Rattle.notation.specs.Faults.{packPrinted}
 use Rattle.notation.specs.Showing.{shown}
+use Rattle.notation.specs.Truths.{TrueFault}
 use Rattle.notation.proofs.Answers as answers
 use Rattle.notation.proofs.Fronts as fronts
 use Rattle.notation.proofs.Trips as texts
+use Rattle.notation.proofs.TrueFaults as truths
 use Rattle.protocol.specs.Running.{aboveSystem}
 use Rattle.protocol.specs.Checks.{Call}
 use Rattle.protocol.specs.Step.{step}
@@ -126,6 +128,10 @@ packed-accepted = answers.packed-accepted
 
 pub fault-alone : (t : List ℕ) (f : Fault) → packText t .packing ≡ Faulty f → packText t .bytes ≡ []
 fault-alone = answers.faulty-nothing
+
+-- what a fault of a rule says of its two values is so, of the record of its own line
+pub fault-true : (t : List ℕ) (f : Fault) → packText t .packing ≡ Faulty f → 7 ≤ f .cause → f .cause ≤ 16 → TrueFault t f
+fault-true = truths.text-true
 
 -- 8,192 bytes of a table and 262,145 of a text decide what is printed of them
 pub front-shown : (s : List ℕ) → shown (take 8192 s) ≡ shown s

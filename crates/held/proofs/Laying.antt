@@ -17,7 +17,7 @@ use Rattle.held.specs.Trips.{TaskSized}
 -- ---- a record at the front of the bytes
 
 -- a word is its four bytes
-word-back : (w : ℕ) → w < 2 ^ 32 → w % 256 + 256 * (w / 256 % 256) + 65536 * (w / 65536 % 256) + 16777216 * (w / 16777216 % 256) ≡ w
+pub word-back : (w : ℕ) → w < 2 ^ 32 → w % 256 + 256 * (w / 256 % 256) + 65536 * (w / 65536 % 256) + 16777216 * (w / 16777216 % 256) ≡ w
 word-back w h =
     let a = mod-add-div w 256 in
     let b = mod-add-div (w / 256) 256 in

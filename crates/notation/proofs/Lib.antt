@@ -13,3 +13,9 @@ pub mod Fronts
 mod Sizes
 mod Onward
 pub mod Trips
+mod Ruled
+mod Reached
+mod Wholes
+mod Telling
+pub mod Truths
+pub mod TrueFaults

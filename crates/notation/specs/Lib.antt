@@ -6,3 +6,4 @@ pub mod Packing
 pub mod Stepping
 pub mod Faults
 pub mod Showing
+pub mod Truths

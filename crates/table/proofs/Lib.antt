@@ -1,7 +1,7 @@
 pub mod Laws
-mod Agreeing
-mod Told
-mod Walked
+pub mod Agreeing
+pub mod Told
+pub mod Walked
 pub mod Accepted
 pub mod Complete
 pub mod Laid

@@ -15,12 +15,12 @@ use Rattle.table.specs.Rules.{taskRule, sumAfter, useRule}
 use Rattle.table.specs.WellFormed.{TaskInRange, UseInRange}
 
 -- neither test passed
-neither : (p q : Bool) → p || q ≡ false → (p ≡ false) × (q ≡ false)
+pub neither : (p q : Bool) → p || q ≡ false → (p ≡ false) × (q ≡ false)
 neither true q e = absurd (impossible cc)
 neither false q e = (refl, e)
 
 -- one of them passed
-either : (p q : Bool) → p || q ≡ true → (p ≡ true) ⊎ (q ≡ true)
+pub either : (p q : Bool) → p || q ≡ true → (p ≡ true) ⊎ (q ≡ true)
 either true q e = inl refl
 either false q e = inr e
 
