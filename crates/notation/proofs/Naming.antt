@@ -1,15 +1,12 @@
--- Laws of what a number stands for, a column or a cause, and of texts put one after the other.
+-- Laws of what a number stands for, a column or a cause.
 use Prim.Native.Nat.{ℕ, zero, suc, _+_, _≤_, _<_}
 use mathlib.Core.Path.{_≡_, subst}
 use mathlib.Core.Bool.{Bool, true, false, cond}
-use mathlib.Core.List.{List, [], _++_}
+use mathlib.Core.List.{[]}
 use native.Mathlib.Decide.{decLe}
 use native.Mathlib.Omega.{arith}
 use borrow.Author.Tests.{ne-eqb}
-use lib.ListN.{length}
 use Rattle.words.specs.Text.{text}
-use Rattle.words.specs.Writing.{Put}
-use Rattle.words.proofs.Puts.{put-then}
 use Rattle.notation.specs.Columns.{name}
 use Rattle.notation.specs.Faults.{opening, middle}
 
@@ -17,10 +14,6 @@ use Rattle.notation.specs.Faults.{opening, middle}
 pub chosen : {A : Type 0} (P : A → Type 0) (b : Bool) {x y : A} → P x → P y → P (cond b x y)
 chosen P true p q = p
 chosen P false p q = q
-
--- a text put where another ended within the buffer: both together
-pub put-on : {o t u o₁ o₂ : List ℕ} {at r₁ r₂ : ℕ} → Put o at t o₁ r₁ → r₁ ≤ length o → Put o₁ r₁ u o₂ r₂ → Put o at (t ++ u) o₂ r₂
-put-on {o} {t} {u} {o₁} {o₂} {at} {r₁} {r₂} p l q = put-then o at t u o₁ o₂ r₁ r₂ (omega (arith, p .end)) p q
 
 -- what holds at a number and at the next holds at each that is one of them
 pub of-two : (p : ℕ → Type 0) (a c : ℕ) → p a → p (a + 1) → a ≤ c → c < a + 2 → p c

@@ -5,7 +5,6 @@ use mathlib.Core.List.{List, [], _∷_, _++_}
 use native.Mathlib.Omega.{arith}
 use native.Mathlib.Decide.{decLt}
 use lib.ListN.{getD, length, length-append, List·getD-append}
-use borrow.Author.Tests.{le-ltb, lt-leb}
 use Rattle.table.specs.declared.Shape.{Shape}
 use Rattle.table.specs.declared.Task.{Task}
 use Rattle.table.specs.declared.Use.{Use}
@@ -15,13 +14,13 @@ use Rattle.table.specs.declared.walk.Turn.{Turn}
 use Rattle.table.specs.declared.walk.Turn.the-variants.{Next}
 use Rattle.table.specs.Fields.{wordAt, taskAt, useAt}
 use Rattle.table.specs.Rules.{taskRule, useRule, placeFrom, withTask, withUse}
-use Rattle.table.specs.Reading.{startWalk, ruled, taskStep, useStep, stepAt, userAt, onward, readFrom, readTable}
+use Rattle.table.specs.Reading.{startWalk, ruled, stepAt, userAt, onward, readFrom, readTable}
 use Rattle.table.specs.WellFormed.{taskOf, useOf, userOf}
-use Rattle.table.proofs.Laws.{place-within, place-has, place-first}
-use Rattle.table.proofs.Accepted.{Seen, seen-start, seen-task, seen-use}
+use Rattle.table.proofs.Laws.{place-within}
+use Rattle.table.proofs.Accepted.{Seen, seen-start, seen-task, seen-use, user-found}
 use Rattle.table.proofs.Agreeing.{word-same, task-same, use-same, place-same}
 use Rattle.notation.proofs.Ruled.{task-first, use-owned}
-use Rattle.table.proofs.Walked.{accepted}
+use Rattle.table.proofs.Walked.{task-turn, use-turn, accepted}
 
 -- ---- what the walk remembers
 
@@ -32,14 +31,6 @@ pub record Marks (s : List ℕ) (w : Walk) : Type 0 where
   pub unused : w .uses ≡ 0 → (w .user ≡ 0) × (w .least ≡ 0)
   pub user : 0 < w .uses → userOf s (w .tasks) (20 * w .tasks) (w .uses - 1) ≡ w .user
   pub least : 0 < w .uses → useOf s (20 * w .tasks) (w .uses - 1) .resource + 1 ≡ w .least
-
--- the task that the walk finds from the last use's on is the one with that priority among all
-pub user-is : (s : List ℕ) (w : Walk) → Seen s w → userAt s w < w .tasks → placeFrom (w .tasks) s 0 (useAt s (w .at) .priority) ≡ userAt s w
-user-is s w g lt =
-    let p = useAt s (w .at) .priority in
-    let i = userAt s w in
-    let has = place-has (w .tasks - w .user) s (w .user) p (let q = place-within (w .tasks - w .user) s (w .user) p in omega arith) in
-    place-first (w .tasks) s 0 p i (omega arith) (omega arith) has (λ n h e. let f = g .falling i lt n h in omega arith)
 
 module _ (s : List ℕ) where
   -- before the first record
@@ -75,7 +66,7 @@ module _ (s : List ℕ) where
         none = m .none;
         last = m .last;
         unused = λ h. absurd (omega arith);
-        user = λ h. ap (λ (a : ℕ). placeFrom (w .tasks) s 0 (useAt s a .priority)) here ∙ user-is s w g owned;
+        user = λ h. ap (λ (a : ℕ). placeFrom (w .tasks) s 0 (useAt s a .priority)) here ∙ user-found s w g owned;
         least = λ h. ap (λ (a : ℕ). useAt s a .resource + 1) here;
       }
 
@@ -97,18 +88,6 @@ going-on s w n l on st g = go (g .fuel) (g .enough) (g .same)
     go (suc k) h e = record { fuel = k; enough = omega arith; same = ap (λ (t : Turn). onward t (readFrom k s)) (sym st) ∙ e }
 
 module _ (s : List ℕ) (w : Walk) where
-  -- a task that is all there is ruled
-  pub task-step : getD s (w .at) 0 ≡ 1 → w .at + 20 ≤ length s
-      → stepAt s w ≡ ruled (taskRule w (taskAt s (w .at))) (w .at) (withTask w (taskAt s (w .at)))
-  unfolding stepAt taskStep
-  task-step k room = rw (lt-leb (length s) (w .at) (omega arith), k, le-ltb (length s - w .at) 20 (omega arith))
-
-  -- and a use
-  pub use-step : getD s (w .at) 0 ≡ 2 → w .at + 8 ≤ length s
-      → stepAt s w ≡ ruled (useRule w (useAt s (w .at)) (userAt s w) (wordAt s (20 * userAt s w + 4))) (w .at) (withUse w (useAt s (w .at)) (userAt s w))
-  unfolding stepAt useStep
-  use-step k room = rw (lt-leb (length s) (w .at) (omega arith), k, le-ltb (length s - w .at) 8 (omega arith))
-
   -- the last use's task is one of the tasks
   pub user-few : Seen s w → Marks s w → w .user ≤ w .tasks
   user-few g m = go (decLt 0 (w .uses))
@@ -190,7 +169,7 @@ module _ (records more : List ℕ) where
       let tw : taskAt whole (w .at) ≡ taskAt s (w .at) = task-same s whole (length records) front-whole (w .at) l in
       let rule : taskRule w (taskAt all (w .at)) ≡ 0 = ap (taskRule w) ta ∙ e in
       let step : stepAt whole w ≡ Next (withTask w (taskAt s (w .at))) =
-      task-step whole w (front-whole (w .at) (omega arith) ∙ k) (omega arith)
+      task-turn whole w (front-whole (w .at) (omega arith) ∙ k) (omega arith)
       ∙ ap (λ (t : Task). ruled (taskRule w t) (w .at) (withTask w t)) tw ∙ rw e in (
         subst (λ (t : Task). Seen all (withTask w t)) ta (seen-task all w (q .0) (front-all (w .at) (omega arith) ∙ k) (omega arith) rule),
         subst (λ (t : Task). Marks all (withTask w t)) ta (marks-task all w (q .0) (q .1) rule),
@@ -213,7 +192,7 @@ module _ (records more : List ℕ) where
       let rule = use-rule-same s all (length records) front-all w l before few ∙ e in
       let past = past-use-same s all (length records) front-all w l before few in
       let step : stepAt whole w ≡ Next (withUse w (useAt s (w .at)) (userAt s w)) =
-      use-step whole w (front-whole (w .at) (omega arith) ∙ k) (omega arith)
+      use-turn whole w (front-whole (w .at) (omega arith) ∙ k) (omega arith)
       ∙ ap (λ (n : ℕ). ruled n (w .at) (withUse w (useAt whole (w .at)) (userAt whole w)))
       (use-rule-same s whole (length records) front-whole w l before few ∙ e)
       ∙ ap Next (past-use-same s whole (length records) front-whole w l before few) in (

@@ -15,7 +15,7 @@ use Rattle.words.proofs.Puts.{put-none, put-then}
 use Rattle.notation.specs.declared.rows.Cell.{Cell}
 use Rattle.notation.specs.declared.rows.Taken.{Taken}
 use Rattle.notation.specs.Columns.{name, least, most, wide, valueBytes}
-use Rattle.notation.specs.Rows.{noCell, valueCell, numberAt, cellAt, Row, noRow, after, rowEnd, withCell, cellsFrom, rowAt}
+use Rattle.notation.specs.Rows.{noCell, valueCell, numberAt, cellAt, Row, noRow, after, rowEnd, withCell, cellsFrom, rowBy, rowAt}
 use Rattle.notation.specs.Taking.{Within, takenBy, TakenPut}
 
 -- ---- a word of a text
@@ -224,14 +224,6 @@ module _ {s : List ℕ} {at first last : ℕ} {before : List ℕ} {count : ℕ} 
 
 -- ---- a whole line
 
--- what the line says whose first word is w, at b
-abbrev rowOf : List ℕ → ℕ → List ℕ → Row
-rowOf s b w =
-    cond (eqb (length w) 0) (noRow 0 11 b)
-    (cond (same w (name 0)) (after (1 ∷ []) (cellsFrom 7 s b 0))
-    (cond (same w (name 7)) (after (2 ∷ []) (cellsFrom 4 s b 7))
-    (noRow 1 11 b)))
-
 -- a line without a record leaves the bytes as they are
 none-put : (s : List ℕ) (row : Row) (o : List ℕ) (count cause b : ℕ) → row ≡ noRow cause 11 b → b ≤ length s
     → TakenPut s row o count o (record { cause = cause; column = 11; at = b; count = count })
@@ -248,9 +240,9 @@ kind-put s row cells o count kind now r e l t = rw e (record {
 
 module _ {s : List ℕ} {at b e : ℕ} (f : Found s at b e) (o : List ℕ) (count : ℕ) where
   -- the line is what its first word says
-  row-of : rowAt s at ≡ rowOf s b (take (e - b) (drop b s))
+  row-of : rowAt s at ≡ rowBy s b (take (e - b) (drop b s))
   unfolding rowAt
-  row-of = sym (ap (rowOf s b) (part-word f) ∙ ap (λ (n : ℕ). rowOf s n (wordOf s n)) (f .start))
+  row-of = sym (ap (rowBy s b) (part-word f) ∙ ap (λ (n : ℕ). rowBy s n (wordOf s n)) (f .start))
 
   -- an empty line
   pub row-none : b ≡ e → TakenPut s (rowAt s at) o count o (record { cause = 0; column = 11; at = b; count = count })

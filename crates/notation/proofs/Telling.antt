@@ -18,11 +18,11 @@ use Rattle.table.specs.Rules.{taskRule, useRule, sumAfter, placeFrom}
 use Rattle.table.specs.Reading.{userAt}
 use Rattle.table.specs.WellFormed.{sectionsBy}
 use Rattle.table.proofs.Laws.{place-within, place-has}
-use Rattle.table.proofs.Accepted.{Seen, sum-own}
+use Rattle.table.proofs.Accepted.{Seen, user-found, sum-own}
 use Rattle.notation.specs.Reasons.{reason, rangeReason, taskReason, useReason, reasonAt}
 use Rattle.notation.specs.Truths.{ownerAt, Told, setting-high, sleepless, run-high, deadline-high, one-too-many, after-use, not-below, of-no-task, out-of-order, past-run}
 use Rattle.notation.proofs.Ruled.{task-ruled, use-ruled}
-use Rattle.notation.proofs.Reached.{Marks, user-is}
+use Rattle.notation.proofs.Reached.{Marks}
 use Rattle.notation.proofs.Wholes.{TaskWhole, UseWhole}
 
 -- ---- a task
@@ -173,7 +173,7 @@ module _ (all : List ℕ) (w : Walk) (g : Seen all w) (m : Marks all w) (kind : 
       go (yes some) (inr l) =
           let b = before some in
           let owned : w .user < w .tasks = omega (arith, m .user some, g .owned (w .uses - 1) (omega arith)) in
-          let found = user-is all w g (omega (arith, l .0)) in
+          let found = user-found all w g (omega (arith, l .0)) in
           out-of-order kind lt (omega (arith, g .place)) (b .0) (inr (omega (arith, found, l .0, b .1), omega (arith, l .1, b .2)))
 
   -- a use that no task is left for, or whose resource does not rise
@@ -196,7 +196,7 @@ module _ (all : List ℕ) (w : Walk) (g : Seen all w) (m : Marks all w) (kind : 
   unfolding useReason
   use-long lt long =
       let on = place-within (w .tasks - w .user) all (w .user) (useAt all (w .at) .priority) .0 in
-      let found = user-is all w g lt in
+      let found = user-found all w g lt in
       let sum : wordAt all (20 * userAt all w + 4) < sumTo (sectionsBy all (w .tasks) (20 * w .tasks) (userAt all w)) (w .uses + 1) =
       omega (arith, sum-own all w g lt on) in
       past-run kind (w .uses) (g .place) (omega arith)

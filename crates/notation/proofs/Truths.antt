@@ -25,7 +25,8 @@ use Rattle.notation.specs.Rows.{rowAt}
 use Rattle.notation.specs.Truths.{Told, Standing, SoFar}
 use Rattle.table.proofs.Agreeing.{task-same}
 use Rattle.notation.proofs.Ruled.{use-owned}
-use Rattle.notation.proofs.Reached.{Going, Reached, reached, reached-start, task-step, use-step, user-few, use-rule-same, going-on}
+use Rattle.table.proofs.Walked.{task-turn, use-turn}
+use Rattle.notation.proofs.Reached.{Going, Reached, reached, reached-start, user-few, use-rule-same, going-on}
 use Rattle.notation.proofs.Wholes.{TaskWhole, UseWhole, row-whole}
 use Rattle.notation.proofs.Telling.{task-true, use-true}
 
@@ -85,7 +86,7 @@ module _ (records bytes : List ℕ) (n : ℕ) (g : Reached records bytes n) (r :
       let size = whole .size in
       let more = length-append all (3 ∷ []) in
       let end : getD ended (w .at + 20) 0 ≡ 3 = getD-at all 3 [] 0 (w .at + 20) size in
-      let step = task-step ended w (same-byte (w .at) (omega arith) ∙ whole .kind) (omega arith) in
+      let step = task-turn ended w (same-byte (w .at) (omega arith) ∙ whole .kind) (omega arith) in
       let by = refused-by ended w (withTask w (taskAt ended (w .at))) (taskRule w (taskAt ended (w .at))) (g .going) (omega arith) step end (omega arith) (λ z. omega arith) r e in
       let is = ap (taskRule w) (task-same all ended (length all) same-byte (w .at) (omega arith)) in
       moved (task-true all w (g .seen) (g .marks) whole (r .number) (sym is ∙ by .0) (λ z. by .1 (by .0 ∙ z)))
@@ -100,7 +101,7 @@ module _ (records bytes : List ℕ) (n : ℕ) (g : Reached records bytes n) (r :
       let i = userAt ended w in
       let c = wordAt ended (20 * userAt ended w + 4) in
       let end : getD ended (w .at + 8) 0 ≡ 3 = getD-at all 3 [] 0 (w .at + 8) size in
-      let step = use-step ended w (same-byte (w .at) (omega arith) ∙ whole .kind) (omega arith) in
+      let step = use-turn ended w (same-byte (w .at) (omega arith) ∙ whole .kind) (omega arith) in
       let some : useRule w u i c ≡ 0 → 1 ≤ w .tasks = λ z. let l = use-owned w u i c z in omega arith in
       let by = refused-by ended w (withUse w u i) (useRule w u i c) (g .going) (omega arith) step end (omega arith) some r e in
       let few = user-few all w (g .seen) (g .marks) in

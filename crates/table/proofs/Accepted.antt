@@ -110,13 +110,16 @@ seen-task s w g k room e =
 -- ---- a use
 
 -- the task that the walk finds from the last use's on is the one with that priority among all
-user-is : (s : List ℕ) (w : Walk) → Seen s w → userAt s w < w .tasks → userOf s (w .tasks) (20 * w .tasks) (w .uses) ≡ userAt s w
-user-is s w g lt =
+pub user-found : (s : List ℕ) (w : Walk) → Seen s w → userAt s w < w .tasks → placeFrom (w .tasks) s 0 (useAt s (w .at) .priority) ≡ userAt s w
+user-found s w g lt =
     let p = useAt s (w .at) .priority in
     let i = userAt s w in
     let has = place-has (w .tasks - w .user) s (w .user) p (let q = place-within (w .tasks - w .user) s (w .user) p in omega arith) in
-    ap (λ (a : ℕ). placeFrom (w .tasks) s 0 (useAt s a .priority)) (sym (g .place))
-    ∙ place-first (w .tasks) s 0 p i (omega arith) (omega arith) has (λ n h e. let f = g .falling i lt n h in omega arith)
+    place-first (w .tasks) s 0 p i (omega arith) (omega arith) has (λ n h e. let f = g .falling i lt n h in omega arith)
+
+-- and so the task of the use that comes next
+user-is : (s : List ℕ) (w : Walk) → Seen s w → userAt s w < w .tasks → userOf s (w .tasks) (20 * w .tasks) (w .uses) ≡ userAt s w
+user-is s w g lt = ap (λ (a : ℕ). placeFrom (w .tasks) s 0 (useAt s a .priority)) (sym (g .place)) ∙ user-found s w g lt
 
 -- what the use at the walk's place adds to each task's sections
 section-more : (s : List ℕ) (w : Walk) → Seen s w → userAt s w < w .tasks → (m : ℕ)

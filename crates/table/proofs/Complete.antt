@@ -19,10 +19,11 @@ use Rattle.table.specs.declared.walk.Turn.the-variants.{Next, Last}
 use Rattle.table.specs.Fields.{taskAt, useAt, wordAt}
 use Rattle.table.specs.Ranges.{taskFits, useFits}
 use Rattle.table.specs.Rules.{taskRule, useRule, sumAfter, withTask, withUse}
-use Rattle.table.specs.Reading.{startWalk, taskStep, useStep, endStep, stepAt, userAt, onward, readFrom, readTable}
+use Rattle.table.specs.Reading.{startWalk, endStep, stepAt, userAt, onward, readFrom, readTable}
 use Rattle.table.specs.WellFormed.{taskOf, useOf, userOf, sectionsBy, TaskInRange, UseInRange, WellFormed}
 use Rattle.table.proofs.Laws.{place-has, place-first}
 use Rattle.table.proofs.Told.{TaskStands, UseStands}
+use Rattle.table.proofs.Walked.{task-turn, use-turn}
 use Rattle.table.proofs.Accepted.{Seen, seen-start, seen-task, seen-use, sum-own}
 
 -- ---- a record that stands passes its rule
@@ -82,14 +83,12 @@ use-passes w u i c st =
 module _ (s : List ℕ) (w : Walk) where
   -- over a task
   task-step : getD s (w .at) 0 ≡ 1 → w .at + 20 ≤ length s → taskRule w (taskAt s (w .at)) ≡ 0 → stepAt s w ≡ Next (withTask w (taskAt s (w .at)))
-  unfolding stepAt taskStep
-  task-step k room e = rw (lt-leb (length s) (w .at) (omega arith), k, le-ltb (length s - w .at) 20 (omega arith), e)
+  task-step k room e = task-turn s w k room ∙ rw e
 
   -- over a use
   use-step : getD s (w .at) 0 ≡ 2 → w .at + 8 ≤ length s → useRule w (useAt s (w .at)) (userAt s w) (wordAt s (20 * userAt s w + 4)) ≡ 0
       → stepAt s w ≡ Next (withUse w (useAt s (w .at)) (userAt s w))
-  unfolding stepAt useStep
-  use-step k room e = rw (lt-leb (length s) (w .at) (omega arith), k, le-ltb (length s - w .at) 8 (omega arith), e)
+  use-step k room e = use-turn s w k room ∙ rw e
 
   -- at the end record
   pub end-step : getD s (w .at) 0 ≡ 3 → length s ≡ w .at + 1 → 1 ≤ w .tasks

@@ -8,7 +8,7 @@ use lib.Dec.{leb, ltb, eqb}
 use lib.ListN.{getD, length}
 use native.Mathlib.Omega.{arith}
 use native.Mathlib.Decide.{ℕ-discrete, decLt}
-use borrow.Author.Tests.{le-leb, lt-leb, le-ltb, eq-eqb, leb-true, leb-false, eqb-true, eqb-false}
+use borrow.Author.Tests.{le-leb, lt-leb, eq-eqb, leb-true, leb-false, eqb-true, eqb-false}
 use Rattle.searches.proofs.Testing.{impossible}
 use Rattle.table.specs.declared.Shape.{Shape}
 use Rattle.table.specs.declared.Refusal.{Refusal}
@@ -22,8 +22,9 @@ use Rattle.table.specs.declared.walk.Turn.the-variants.{Next, Last}
 use Rattle.table.specs.Fields.{taskAt, useAt, wordAt}
 use Rattle.table.specs.Ranges.{taskFits, useFits}
 use Rattle.table.specs.Rules.{taskRule, useRule, sumAfter, withTask, withUse}
-use Rattle.table.specs.Reading.{startWalk, refusal, ruled, taskStep, useStep, endStep, stepAt, userAt, onward, readFrom, readTable}
+use Rattle.table.specs.Reading.{startWalk, refusal, ruled, endStep, stepAt, userAt, onward, readFrom, readTable}
 use Rattle.table.proofs.Laws.{place-within, place-has}
+use Rattle.table.proofs.Walked.{task-turn, use-turn}
 use Rattle.table.proofs.Accepted.{Seen, seen-start, seen-task, seen-use, well-formed}
 use Rattle.table.proofs.Complete.{end-step}
 
@@ -102,18 +103,6 @@ use-unowned s w c g e = rw (le-leb (w .tasks) (userAt s w) (none (decLt (userAt 
 -- ---- the step at a whole record
 
 module _ (s : List ℕ) (w : Walk) where
-  -- at a task: what its rule says
-  task-turn : getD s (w .at) 0 ≡ 1 → w .at + 20 ≤ length s
-      → stepAt s w ≡ ruled (taskRule w (taskAt s (w .at))) (w .at) (withTask w (taskAt s (w .at)))
-  unfolding stepAt taskStep
-  task-turn k room = rw (lt-leb (length s) (w .at) (omega arith), k, le-ltb (length s - w .at) 20 (omega arith))
-
-  -- at a use: what its rule says
-  use-turn : getD s (w .at) 0 ≡ 2 → w .at + 8 ≤ length s
-      → stepAt s w ≡ ruled (useRule w (useAt s (w .at)) (userAt s w) (wordAt s (20 * userAt s w + 4))) (w .at) (withUse w (useAt s (w .at)) (userAt s w))
-  unfolding stepAt useStep
-  use-turn k room = rw (lt-leb (length s) (w .at) (omega arith), k, le-ltb (length s - w .at) 8 (omega arith))
-
   -- at the end record, with no task before it
   end-refused : getD s (w .at) 0 ≡ 3 → w .at < length s → w .tasks ≡ 0 → stepAt s w ≡ refusal 3 (w .at)
   unfolding stepAt endStep

@@ -7,7 +7,7 @@ use mathlib.Core.List.{List}
 use lib.Dec.{ltb, leb, eqb}
 use lib.ListN.{getD, length}
 use native.Mathlib.Omega.{arith}
-use borrow.Author.Tests.{ltb-false, leb-false, eqb-true, eqb-false}
+use borrow.Author.Tests.{le-ltb, lt-leb, ltb-false, leb-false, eqb-true, eqb-false}
 use Rattle.searches.proofs.Testing.{impossible}
 use Rattle.table.specs.declared.Shape.{Shape}
 use Rattle.table.specs.declared.Reading.{Reading}
@@ -18,6 +18,21 @@ use Rattle.table.specs.declared.walk.Turn.the-variants.{Next, Last}
 use Rattle.table.specs.Fields.{wordAt, taskAt, useAt}
 use Rattle.table.specs.Rules.{taskRule, useRule, withTask, withUse}
 use Rattle.table.specs.Reading.{startWalk, refusal, ruled, taskStep, useStep, endStep, stepAt, userAt, onward, readFrom, readTable}
+
+-- ---- the step at a whole record
+
+module _ (s : List ℕ) (w : Walk) where
+  -- at a task: what its rule says
+  pub task-turn : getD s (w .at) 0 ≡ 1 → w .at + 20 ≤ length s
+      → stepAt s w ≡ ruled (taskRule w (taskAt s (w .at))) (w .at) (withTask w (taskAt s (w .at)))
+  unfolding stepAt taskStep
+  task-turn k room = rw (lt-leb (length s) (w .at) (omega arith), k, le-ltb (length s - w .at) 20 (omega arith))
+
+  -- at a use: what its rule says
+  pub use-turn : getD s (w .at) 0 ≡ 2 → w .at + 8 ≤ length s
+      → stepAt s w ≡ ruled (useRule w (useAt s (w .at)) (userAt s w) (wordAt s (20 * userAt s w + 4))) (w .at) (withUse w (useAt s (w .at)) (userAt s w))
+  unfolding stepAt useStep
+  use-turn k room = rw (lt-leb (length s) (w .at) (omega arith), k, le-ltb (length s - w .at) 8 (omega arith))
 
 -- ---- which way a test went
 

@@ -1,7 +1,7 @@
 -- `notation::faults::put_fault` meets its contract.
 use native.Mathlib.Omega.{arith}
 use borrow.Author.Needs.{needs}
-use Rattle.notation.proofs.Naming.{put-on}
+use Rattle.words.proofs.Puts.{put-on}
 use Rattle.notation.proofs.faults.put_fault.Statement.{statement}
 use Rattle.notation.proofs.faults.put_fault.Tie as tie
 

@@ -1,7 +1,7 @@
 -- `notation::faults::put_word_text` meets its contract.
 use native.Mathlib.Omega.{arith}
 use borrow.Author.Needs.{needs}
-use Rattle.notation.proofs.Naming.{put-on}
+use Rattle.words.proofs.Puts.{put-on}
 use Rattle.notation.proofs.faults.put_word_text.Statement.{statement}
 use Rattle.notation.proofs.faults.put_word_text.Tie as tie
 
