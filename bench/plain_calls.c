@@ -18,21 +18,26 @@ static bool fit(const struct scheduler *s) {
   return true;
 }
 
-/* The place of the running job: the highest ready one, if it is above the system priority. */
+/* The place of the running job: the highest ready one if it is above the system priority, else the highest ready holder. */
 static unsigned running(const struct scheduler *s) {
   const struct table *table = s->table;
-  unsigned system = 0, highest = 0, place = NOWHERE;
+  unsigned system = 0, highest = 0, highest_held = 0, place = NOWHERE, holder = NOWHERE;
   for (unsigned i = 0; i < table->tasks; i++) {
     const struct task *task = &table->task[i];
     const struct entry *entry = &s->entry[i];
     if (entry->status == NO_JOB) continue;
     if (entry->started && task->setting > system) system = task->setting;
-    if (entry->status == READY && task->priority > highest) {
+    if (entry->status != READY) continue;
+    if (task->priority > highest) {
       highest = task->priority;
       place = i;
     }
+    if (entry->held && task->priority > highest_held) {
+      highest_held = task->priority;
+      holder = i;
+    }
   }
-  return highest > system ? place : NOWHERE;
+  return highest > system ? place : holder;
 }
 
 static uint16_t serial_at(const struct scheduler *s, unsigned place) { return s->entry[place].next - 1; }
@@ -118,7 +123,7 @@ struct answer unlock(struct scheduler *s, struct job job, uint8_t resource) {
   entry->held = 0;
   unsigned k = 0;
   while (k < s->open && (s->section[k].place != place || s->section[k].resource != resource)) k++;
-  if (k == s->open) return accepted(s, place);
+  if (k == s->open) return accepted(s, running(s)); /* without its mark the job may not be eligible */
   s->open--;
   for (; k < s->open; k++) s->section[k] = s->section[k + 1];
   s->section[s->open] = (struct section){0, 0};

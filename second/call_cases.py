@@ -5,7 +5,7 @@ from pathlib import Path
 
 from analysis_cases import within
 from call_files import case_bytes
-from call_lists import add, arbitrary_call, begin, go_on, random_list
+from call_lists import add, arbitrary_call, begin, go_on, pressing_call, random_list, sleepers_table
 from made_up import filled_anyhow, made_up_list
 from scheduler import SERIALS, changed, fresh_state, set_up
 from table_cases import full_table, named_tables, pick
@@ -16,6 +16,8 @@ DATA = Path("crates/calls/data/calls")
 LINES = Path("crates/calls/stdout")
 # How many lists begin with a made-up state; each takes 1,349 bytes.
 MADE_UP = 1_000
+# How many lists have sleepers above holders.
+SLEEPERS = 200
 
 # The call lists K and L of the scope document, and the unlock in K under the number of a job that doesn't run.
 K = [("r", 1), ("l", 1, 0, 1), ("r", 3), ("r", 2), ("u", 1, 0, 1), ("s", 3, 0), ("c", 2, 0), ("l", 1, 0, 1),
@@ -23,14 +25,31 @@ K = [("r", 1), ("l", 1, 0, 1), ("r", 3), ("r", 2), ("u", 1, 0, 1), ("s", 3, 0), 
 L = [("r", 1), ("l", 1, 0, 1), ("r", 3), ("u", 1, 0, 1), ("s", 3, 0), ("r", 2), ("c", 2, 0), ("w", 3, 0), ("c", 3, 0)]
 BESIDE_K = ("u", 1, 0, 1)
 
+# A sleeper of setting 1 above a holder for whose section a third task waits: the holder goes on through the sleep.
+FAIR_TABLE = table_bytes([Task(3, 1, 1, 2, 1, 90, 90), Task(2, 0, 0, 2, 0, 90, 90), Task(1, 0, 0, 2, 0, 90, 90)],
+                         [Use(2, 1, 1, 1), Use(1, 1, 1, 1)])
+FAIR = [("r", 1), ("l", 1, 0, 1), ("r", 3), ("s", 3, 0), ("r", 2), ("u", 1, 0, 1), ("c", 2, 0), ("w", 3, 0),
+        ("c", 3, 0), ("c", 1, 0)]
+# Two holders not above the system priority: both sections are gone through, one after the other, while task 3 is ready.
+TWO_HELD_TABLE = table_bytes([Task(4, 3, 1, 2, 1, 90, 90), Task(3, 0, 0, 2, 0, 90, 90), Task(2, 0, 0, 2, 0, 90, 90),
+                              Task(1, 0, 0, 2, 0, 90, 90)], [Use(2, 2, 1, 1), Use(1, 1, 1, 1)])
+TWO_HELD = [("r", 1), ("l", 1, 0, 1), ("r", 2), ("l", 2, 0, 2), ("r", 4), ("r", 3), ("s", 4, 0), ("u", 2, 0, 2),
+            ("u", 1, 0, 1), ("w", 4, 0), ("c", 4, 0), ("c", 3, 0), ("c", 2, 0), ("c", 1, 0)]
+# A job that is ready after its sleep, but not above the system priority of a second sleeper: the holder goes on.
+AFTER_SLEEP_TABLE = table_bytes([Task(3, 2, 1, 2, 1, 90, 90), Task(2, 1, 1, 2, 1, 90, 90),
+                                 Task(1, 0, 0, 2, 0, 90, 90)], [Use(1, 1, 1, 1)])
+AFTER_SLEEP = [("r", 1), ("l", 1, 0, 1), ("r", 2), ("s", 2, 0), ("r", 3), ("w", 2, 0), ("s", 3, 0), ("u", 1, 0, 1),
+               ("w", 3, 0), ("c", 3, 0), ("c", 2, 0), ("c", 1, 0)]
+
 # A task that sleeps once and has one section, and one below it.
 ONE_EACH = table_bytes([Task(5, 0, 1, 3, 1, 90, 90), Task(2, 0, 0, 2, 0, 90, 90)], [Use(5, 1, 1, 1), Use(2, 1, 1, 1)])
 
 
-# The lists of the scope document, with the state after each call.
+# The lists of the scope document, and those with a holder not above the system priority; the state after each call.
 def named_lists():
     a, b = (table_bytes(*table) for table in named_tables()[:2])
-    for table, calls in ((a, K + [BESIDE_K]), (b, L)):
+    for table, calls in ((a, K + [BESIDE_K]), (b, L), (FAIR_TABLE, FAIR), (TWO_HELD_TABLE, TWO_HELD),
+                         (AFTER_SLEEP_TABLE, AFTER_SLEEP)):
         run = begin("T", table)
         for call in calls:
             add(add(run, *call), "S")
@@ -94,6 +113,12 @@ def tower_list(rng, height, length):
     return go_on(rng, run, length)
 
 
+# A list in which sleepers stand above tasks with sections.
+def sleepers_list(rng):
+    table = sleepers_table(rng, within(rng, 1, 3), within(rng, 2, 6))
+    return go_on(rng, begin("T", table), within(rng, 30, 90), pressing_call)
+
+
 # Lists on made-up states without tasks, all places filled with what must not count.
 def taskless_lists(rng):
     for at in range(12):
@@ -114,6 +139,8 @@ def full_lists(rng):
 def all_lists(rng):
     yield from named_lists()
     yield from refused_lists(rng)
+    for _ in range(SLEEPERS):
+        yield sleepers_list(rng)
     for _ in range(700):
         yield random_list(rng, within(rng, 1, 6), pick(rng, [1, 2, 4]), within(rng, 8, 30))
     for _ in range(MADE_UP):

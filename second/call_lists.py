@@ -37,6 +37,20 @@ def call_table(rng, count, most_resources):
     return table_bytes(tasks, uses)
 
 
+# A table in which tasks that sleep, with settings that reach the lower ones, stand above tasks with sections.
+def sleepers_table(rng, sleepers, holders):
+    tasks, uses = [], []
+    for priority in range(sleepers + holders, 0, -1):
+        holder = priority <= holders
+        own = [Use(priority, (priority + 1) // 2, within(rng, 1, 3), 1)] if holder else []
+        own += [Use(priority, RESOURCES, 1, 1)] if one_in(rng, 4) else []
+        setting = pick(rng, [0, 0, priority - 1] if holder else [holders, priority - 1, within(rng, 1, holders)])
+        x = rng.randrange(2) if holder else within(rng, 1, 3)
+        tasks.append(Task(priority, setting, x, 1 + sum(use.n for use in own), x, 90, 90))
+        uses += own
+    return table_bytes(tasks, uses)
+
+
 # The sensible next calls of the running job at this place; the likelier ones stand twice.
 def own_calls(state, place):
     task, entry = state["tasks"][place], state["entries"][place]
@@ -123,14 +137,24 @@ def next_call(rng, state):
     return arbitrary_call(rng, state) if one_in(rng, 4) else sensible_call(rng, state)
 
 
+# A call for lists with holders: while the running job holds a section, high jobs come or wake; it is rarely arbitrary.
+def pressing_call(rng, state):
+    place = running_place(state)
+    others = arrivals(state)
+    if place is None or not others or one_in(rng, 8):
+        return next_call(rng, state)
+    held = state["entries"][place]["held"] != 0
+    return pick(rng, others[:2]) if one_in(rng, 4) != held else pick(rng, own_calls(state, place))
+
+
 # Add so many calls, with the state shown now and then and a short burst once in a while, and the state at the end.
-def go_on(rng, run, length):
+def go_on(rng, run, length, choose=next_call):
     for _ in range(length):
         if one_in(rng, 40):
             add(run, "S")
         if one_in(rng, 300):
             add(run, "B", some_number(rng, run["state"])[0], within(rng, 1, 9))
-        add(run, *next_call(rng, run["state"]))
+        add(run, *choose(rng, run["state"]))
     return add(run, "S")
 
 

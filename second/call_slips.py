@@ -1,8 +1,9 @@
 """Schedulers with one slip each: rules that must not pass for those of the scope document."""
 
+from running_slips import RUNNING_SLIPS
 from scheduler import (ASLEEP, NO_JOB, PLACES, READY, RESOURCES, SERIALS, SLOTS, WAITING, allowed, answer, arriving,
                        ceiling, changed, closed, completed, fit, job_number, locked, place_if_running, places, released,
-                       resumed, running_place, suspended, system_ceiling, tasks_of, unlocked, woken)
+                       resumed, running_place, suspended, system_ceiling, system_priority, tasks_of, unlocked, woken)
 
 
 # A right release, but with other values for the entry, made from the entry before.
@@ -86,38 +87,6 @@ def resumed_at_first_sleeper(state, number):
         if state["entries"][place]["status"] == ASLEEP and state["tasks"][place]["priority"] == number[0]:
             return resumed(state, number) if job_number(state, place) == number else (20, state)
     return 20, state
-
-
-# The system priority drops while its job sleeps.
-def system_priority_awake(state):
-    return max((task["setting"] for task, entry in zip(tasks_of(state), state["entries"])
-                if entry["started"] and entry["status"] in (READY, WAITING)), default=0)
-
-
-# The system priority counts jobs that have not started.
-def system_priority_of_all(state):
-    return max((task["setting"] for task, entry in zip(tasks_of(state), state["entries"])
-                if entry["status"] != NO_JOB), default=0)
-
-
-# The system priority counts jobs that are done.
-def system_priority_after_all(state):
-    return max((task["setting"] for task, entry in zip(tasks_of(state), state["entries"]) if entry["started"]),
-               default=0)
-
-
-# The highest ready job runs, whatever the system priority.
-def running_place_ready(state):
-    ready = [place for place in places(state) if state["entries"][place]["status"] == READY]
-    return max(ready, key=lambda place: state["tasks"][place]["priority"], default=None)
-
-
-# The last of equal priorities runs.
-def running_place_last(state):
-    first = running_place(state)
-    return None if first is None else max(
-        place for place in places(state) if state["entries"][place]["status"] == READY
-        and state["tasks"][place]["priority"] == state["tasks"][first]["priority"])
 
 
 # The system ceiling is the highest of all open sections.
@@ -290,6 +259,24 @@ def answer_with_start(rule, state, *numbers):
     return refusal, job, after if job is None else changed(after, running_place(after), started=True)
 
 
+# After an unlock that finds no such open section the same job runs.
+def answer_after_freeing(rule, state, *numbers):
+    refusal, job, after = answer(rule, state, *numbers)
+    if refusal or rule is not unlocked or after["open"] != state["open"]:
+        return refusal, job, after
+    place = running_place(state)
+    return 0, job_number(state, place), changed(rule(state, *numbers)[1], place, started=True)
+
+
+# A job that is not above the system priority is not started.
+def answer_starting_above(rule, state, *numbers):
+    refusal, job, after = answer(rule, state, *numbers)
+    if refusal or job is None:
+        return refusal, job, after
+    before = rule(state, *numbers)[1]
+    return 0, job, after if job[0] > system_priority(before) else before
+
+
 # An unfit state's running job is named.
 def answer_of_unfit(rule, state, *numbers):
     refusal, job, after = answer(rule, state, *numbers)
@@ -303,9 +290,10 @@ def fitting(state):
 
 
 # The functions of scheduler.py that a slip takes the place of; a slip's name begins with that of its function.
-REPLACED = ["released", "resumed", "system_priority", "running_place", "system_ceiling", "arriving", "woken", "closed",
-            "unlocked", "locked", "suspended", "completed", "job_number", "answer"]
+REPLACED = ["released", "resumed", "system_ceiling", "arriving", "woken", "closed", "unlocked", "locked", "suspended",
+            "completed", "job_number", "answer"]
 FITTING = ["fit", "count_fits", "settings_fit", "sections_fit", "section_places_fit", "section_resources_fit"]
 # Each slip with the function that it takes the place of.
-SLIPS = [(name, slip) for name in REPLACED for title, slip in list(globals().items()) if title.startswith(name + "_")]
+SLIPS = RUNNING_SLIPS + [(name, slip) for name in REPLACED for title, slip in list(globals().items())
+                         if title.startswith(name + "_")]
 SLIPS += [(name, fitting) for name in FITTING]

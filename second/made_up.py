@@ -85,15 +85,39 @@ def reached_state(rng):
     return run["state"]
 
 
-# Another task gets the priority of the first, and perhaps its next serial and status.
-def twin(rng, state):
-    place, other = pick(rng, places(state)), pick(rng, places(state))
+# Another task gets the priority of the one at a place, and perhaps its next serial and status.
+def paired(rng, state, place, other):
     task, entry = state["tasks"][place], state["entries"][place]
     setting = min(state["tasks"][other]["setting"], task["priority"] - 1)
     state = with_task(state, other, priority=task["priority"], setting=setting)
     if one_in(rng, 2):
         state = changed(state, other, next=entry["next"])
     return changed(state, other, status=entry["status"]) if one_in(rng, 2) else state
+
+
+# One task gets the priority of another.
+def twin(rng, state):
+    return paired(rng, state, pick(rng, places(state)), pick(rng, places(state)))
+
+
+# The job at a place is started and doesn't run, and its setting is a high system priority: the highest of all, or any.
+def raised(rng, state, place):
+    priorities = [task["priority"] for task in tasks_of(state)]
+    setting = min(254, pick(rng, [max(priorities), pick(rng, priorities)]))
+    state = with_task(state, place, priority=max(priorities[place], setting + 1), setting=setting)
+    return changed(state, place, status=pick(rng, [ASLEEP, ASLEEP, WAITING]), started=True)
+
+
+# Beside a job with a high setting another entry, often ready, gets a held mark, and perhaps a ready twin without one.
+def frozen(rng, state):
+    count, step = state["count"], pick(rng, [1, -1])
+    place = pick(rng, places(state))
+    other, third = (place + step) % count, (place + 2 * step) % count
+    mark = pick(rng, [1, 17, 255, a_held(rng, state["tasks"][other])])
+    state = changed(state, other, status=pick(rng, [READY, READY, READY, WAITING, ASLEEP]), held=mark)
+    if third not in (place, other) and not one_in(rng, 3):
+        state = changed(paired(rng, state, other, third), third, status=READY, held=0)
+    return raised(rng, state, place)
 
 
 # An entry gets another held mark.
@@ -230,6 +254,8 @@ def fit_state(rng):
         state = loose_state(rng, pick(rng, [31, 32, 32, 32]), pick(rng, [None, 0, 3, 16]))
     if one_in(rng, 2):
         state = twin(rng, state)
+    if one_in(rng, 3):
+        state = frozen(rng, state)
     return filled_anyhow(rng, state) if one_in(rng, 3) else state
 
 

@@ -111,13 +111,19 @@ def system_priority(state):
     return max(settings, default=0)
 
 
-# The place of the running job: the first of highest priority among ready jobs above the system priority, or None.
+# Whether a job is eligible: above this system priority, or holding a section, as the held mark says.
+def eligible(state, place, above):
+    return state["tasks"][place]["priority"] > above or state["entries"][place]["held"] != 0
+
+
+# The place of the running job: the first of highest priority among eligible ready jobs, or None.
 def running_place(state):
     above = system_priority(state)
-    best = None
+    best, highest = None, 0
     for place, task in enumerate(tasks_of(state)):
-        if state["entries"][place]["status"] == READY and task["priority"] > above:
-            best, above = place, task["priority"]
+        ready = state["entries"][place]["status"] == READY
+        if ready and task["priority"] > highest and eligible(state, place, above):
+            best, highest = place, task["priority"]
     return best
 
 

@@ -1,4 +1,4 @@
-"""What the tests of scheduler.py share: tables A and B, made-up states, and following calls."""
+"""What the tests of scheduler.py share: tables A and B, made-up states, following calls, and steps of random ones."""
 
 from call_files import call
 from scheduler import RESOURCES, changed, fresh_state, places, set_up, task_rules
@@ -34,6 +34,16 @@ def follow(state, calls):
         refusals.append(refusal)
         jobs.append(job)
     return refusals, jobs, state
+
+
+# So many steps of calls so chosen on a scheduler set up on a table: the state, the call, its answer and the next state.
+def steps(rng, table, choose, length):
+    state = fresh(table)
+    for _ in range(length):
+        step = choose(rng, state)
+        refusal, job, after = call(state, *step)
+        yield state, step, refusal, job, after
+        state = after
 
 
 # The statuses at the tasks' places.

@@ -6,10 +6,12 @@ from pathlib import Path
 from unittest.mock import patch
 
 import scheduler
-from call_cases import BESIDE_K, DATA, K, L, LINES, MADE_UP
+from call_cases import AFTER_SLEEP, BESIDE_K, DATA, FAIR, K, L, LINES, MADE_UP, TWO_HELD
 from call_files import CALLS, case_bytes, cases_in, play
 from call_slips import FITTING, SLIPS
-from scheduler import NO_JOB, PLACES, SERIALS, SLOTS, fit, places
+from running_slips import (eligible_above_only, running_place_first_equal, running_place_sleeping_holder,
+                           running_place_waiting_holder)
+from scheduler import NO_JOB, PLACES, SERIALS, SLOTS, fit, places, running_place, system_priority
 from tables import Accepted, read
 
 ROOT = Path(__file__).resolve().parent.parent
@@ -46,6 +48,18 @@ def marks(state):
     return [(place, state["entries"][place]["held"]) for place in places(state) if state["entries"][place]["held"]]
 
 
+# Whether a holder that is not above the system priority runs though no open section is its own.
+def runs_by_mark(state):
+    place = running_place(state)
+    return (place is not None and state["tasks"][place]["priority"] <= system_priority(state)
+            and place not in [opener for opener, _ in state["open"]])
+
+
+# Whether another job, or none, would run in a state by this slip.
+def runs_else(slip):
+    return lambda state: slip(state) != running_place(state)
+
+
 # The files as they stand, read once.
 class Files(unittest.TestCase):
     @classmethod
@@ -59,11 +73,11 @@ class Files(unittest.TestCase):
                  for pair in zip([case for case in cases if case[0] != "M"], lines)]
         cls.answers = [(case, line.split()) for case, line in pairs if case[0] in CALLS]
 
-    # The lists in which slips are looked for: the first on tables, then on made-up states, then some more.
+    # The lists in which slips are looked for: the first on tables, then on made-up states, then more of both.
     def some_lists(self):
         tables = [part for part in self.lists if part[0][0][0] == "T"]
         made_up = [part for part in self.lists if part[0][0][0] == "M"]
-        return tables[:50] + made_up[:400] + tables[50:500]
+        return tables[:50] + made_up[:400] + tables[50:500] + made_up[400:]
 
     def test_lines_and_cases_go_together(self):
         self.assertEqual(self.rest, [])
@@ -74,8 +88,8 @@ class Files(unittest.TestCase):
             if not any(case[0] == "B" and case[2] > 1000 for case in cases):
                 self.assertEqual(list(play(cases)), lines)
 
-    def test_k_and_l_come_first(self):
-        for part, calls in zip(self.lists, (K + [BESIDE_K], L)):
+    def test_the_named_lists_come_first(self):
+        for part, calls in zip(self.lists, (K + [BESIDE_K], L, FAIR, TWO_HELD, AFTER_SLEEP)):
             self.assertEqual([case for case in part[0] if case[0] in CALLS], calls)
 
     def test_number_of_calls(self):
@@ -117,8 +131,17 @@ class Files(unittest.TestCase):
                 (lambda state: state["entries"][0]["next"] >= SERIALS - 2, 20),
                 (lambda state: len(state["open"]) == SLOTS, 20),
                 (lambda state: len(set(state["open"])) < len(state["open"]), 20),
-                (lambda state: state["count"] == PLACES, 50)]:
+                (lambda state: state["count"] == PLACES, 50),
+                (runs_by_mark, 20),
+                (runs_else(running_place_waiting_holder), 20),
+                (runs_else(running_place_sleeping_holder), 20),
+                (runs_else(running_place_first_equal), 100)]:
             self.assertGreater(sum(kind(state) for state in self.fit_states), MADE_UP // share)
+
+    def test_lists_in_which_a_holder_not_above_the_system_priority_runs(self):
+        found = Counter(part[0][0][0] for part in self.some_lists() if shows("eligible", eligible_above_only, part))
+        self.assertGreaterEqual(found["T"], 100)
+        self.assertGreaterEqual(found["M"], 50)
 
     def test_serials_wrap(self):
         bursts = [case for case in self.cases if case[0] == "B"]

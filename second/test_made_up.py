@@ -5,12 +5,12 @@ import random
 import unittest
 
 from call_files import burst, call, case_bytes, cases_in, play, state_numbers
-from call_lists import call_table, next_call
+from call_lists import call_table, next_call, pressing_call, sleepers_table
 from made_up import made_up_list
 from scheduler import (ASLEEP, NO_JOB, READY, RESOURCES, SERIALS, SLOTS, WAITING, ceiling, changed, complete, fit,
                        fresh_state, job_number, lock, places, release, resume, running_place, suspend,
                        system_ceiling, system_priority, unlock)
-from scheduler_fixtures import A, B, fresh, rules, made, statuses
+from scheduler_fixtures import A, fresh, rules, made, statuses, steps
 
 
 class MadeUp(unittest.TestCase):
@@ -131,16 +131,12 @@ class MadeUp(unittest.TestCase):
 
 
 class RandomCalls(unittest.TestCase):
-    # Steps of random calls from fresh schedulers: the state, the call, its answer and the next state.
+    # Steps of random calls from fresh schedulers, on tables of two kinds in turn.
     def steps(self, seed, lists, length):
         rng = random.Random(seed)
-        for _ in range(lists):
-            state = fresh(call_table(rng, 1 + rng.randrange(7), 4))
-            for _ in range(length):
-                step = next_call(rng, state)
-                refusal, job, after = call(state, *step)
-                yield state, step, refusal, job, after
-                state = after
+        for _ in range(lists // 2):
+            yield from steps(rng, call_table(rng, 1 + rng.randrange(7), 4), next_call, length)
+            yield from steps(rng, sleepers_table(rng, 2, 4), pressing_call, length)
 
     def test_no_resource_is_held_twice(self):
         deepest = 0

@@ -1,13 +1,14 @@
-"""Tests of scheduler.py, written from the scope document's rules: call lists K and L, setting up, refusals, serials."""
+"""Tests of scheduler.py, written from the scope document's rules: named lists, setting up, refusals, serials."""
 
 import unittest
 
-from call_cases import BESIDE_K, K, L, refused_tables
+from call_cases import (AFTER_SLEEP, AFTER_SLEEP_TABLE, BESIDE_K, FAIR, FAIR_TABLE, K, L, TWO_HELD, TWO_HELD_TABLE,
+                        refused_tables)
 from call_files import call
-from scheduler import (NO_JOB, PLACES, READY, SERIALS, ceiling, changed, complete, fresh_state, release, set_up,
-                       system_ceiling, system_priority, task_rules)
+from scheduler import (ASLEEP, NO_JOB, PLACES, READY, SERIALS, WAITING, ceiling, changed, complete, fresh_state,
+                       release, set_up, system_ceiling, system_priority, task_rules)
 from tables import Refused, read
-from scheduler_fixtures import A, B, fresh, rules, made, follow
+from scheduler_fixtures import A, B, fresh, rules, made, follow, statuses
 
 
 class CheckedLists(unittest.TestCase):
@@ -29,19 +30,35 @@ class CheckedLists(unittest.TestCase):
     def test_l(self):
         self.runs(B, L, [1, 1, 1, 3, None, 2, None, 3, 1])
 
-    def test_system_values_in_k_and_l(self):
-        state = fresh(A)
+    def test_a_holder_goes_on_through_a_sleep(self):
+        state = self.runs(FAIR_TABLE, FAIR[:5], [1, 1, 3, 1, 1])
+        self.assertEqual(statuses(state), [ASLEEP, WAITING, READY])
+        self.runs(FAIR_TABLE, FAIR, [1, 1, 3, 1, 1, 2, None, 3, 1, None])
+
+    def test_two_sections_in_one_wait(self):
+        state = self.runs(TWO_HELD_TABLE, TWO_HELD[:7], [1, 1, 2, 2, 4, 4, 2])
+        self.assertEqual((statuses(state), system_priority(state)), ([ASLEEP, READY, READY, READY], 3))
+        self.runs(TWO_HELD_TABLE, TWO_HELD, [1, 1, 2, 2, 4, 4, 2, 1, None, 4, 3, 2, 1, None])
+
+    def test_a_holder_goes_on_after_a_sleep(self):
+        state = self.runs(AFTER_SLEEP_TABLE, AFTER_SLEEP[:7], [1, 1, 2, 1, 3, 3, 1])
+        self.assertEqual((statuses(state), system_priority(state)), ([ASLEEP, READY, READY], 2))
+        self.runs(AFTER_SLEEP_TABLE, AFTER_SLEEP, [1, 1, 2, 1, 3, 3, 1, None, 3, 2, 1, None])
+
+    # After each call the system ceiling and the system priority are these.
+    def system_values(self, table, calls, values):
+        state = fresh(table)
         found = []
-        for step in K:
+        for step in calls:
             state = call(state, *step)[2]
             found.append((system_ceiling(state), system_priority(state)))
-        self.assertEqual(found, [(0, 0), (3, 0), (3, 0), (3, 0), (0, 0), (0, 0), (0, 0), (3, 0), (3, 0), (0, 0)])
-        state = fresh(B)
-        found = []
-        for step in L:
-            state = call(state, *step)[2]
-            found.append((system_ceiling(state), system_priority(state)))
-        self.assertEqual(found, [(0, 0), (3, 0), (3, 0), (0, 1), (0, 1), (0, 1), (0, 1), (0, 1), (0, 0)])
+        self.assertEqual(found, values)
+
+    def test_system_values(self):
+        self.system_values(A, K, [(0, 0), (3, 0), (3, 0), (3, 0), (0, 0), (0, 0), (0, 0), (3, 0), (3, 0), (0, 0)])
+        self.system_values(B, L, [(0, 0), (3, 0), (3, 0), (0, 1), (0, 1), (0, 1), (0, 1), (0, 1), (0, 0)])
+        self.system_values(FAIR_TABLE, FAIR, [(0, 0), (2, 0), (2, 1), (2, 1), (2, 1), (0, 1), (0, 1), (0, 1), (0, 0),
+                                              (0, 0)])
 
 
 class SettingUp(unittest.TestCase):

@@ -8,7 +8,7 @@ use lib.ListN.{getD}
 use Rattle.searches.specs.Searches.{first, best, largest, only}
 use Rattle.searches.proofs.Leading.{passed, best-by-largest}
 use Rattle.protocol.specs.State.{isNone}
-use Rattle.protocol.specs.Running.{systemPriority, aboveSystem, running}
+use Rattle.protocol.specs.Running.{systemPriority, inForce, running}
 use Rattle.arrays.specs.View.{statusOf, countOf, ranked, jobs, eligibleAt}
 
 -- ---- what the scans look at
@@ -31,13 +31,13 @@ numberIn l i = getD l i 0
 
 -- ---- who runs
 
--- the running job is the first of those above the system priority that has the highest priority of them
-pub running-found : (states : List ℕ) (started : List Bool) (settings priorities : List ℕ) (n system highest : ℕ)
-    → system ≡ systemPriority (ranked n [] settings) (jobs states started)
-    → highest ≡ largest (passed (eligibleAt states priorities system) (numberIn priorities)) n
-    → first (λ i. eligibleAt states priorities system i && eqb (numberIn priorities i) highest) n
-    ≡ running aboveSystem (ranked n priorities settings) (jobs states started)
+-- the running job is the first of the eligible ones that has the highest priority of them
+pub running-found : (states : List ℕ) (started : List Bool) (held settings priorities : List ℕ) (n system highest : ℕ)
+    → system ≡ systemPriority (ranked n [] settings) (jobs states started [])
+    → highest ≡ largest (passed (eligibleAt states held priorities system) (numberIn priorities)) n
+    → first (λ i. eligibleAt states held priorities system i && eqb (numberIn priorities i) highest) n
+    ≡ running inForce (ranked n priorities settings) (jobs states started held)
 unfolding running systemPriority
-running-found states started settings priorities n system highest e h =
-    rw h (best-by-largest (eligibleAt states priorities system) (numberIn priorities) n)
-    ∙ ap (λ y. best (eligibleAt states priorities y) (numberIn priorities) n) e
+running-found states started held settings priorities n system highest e h =
+    rw h (best-by-largest (eligibleAt states held priorities system) (numberIn priorities) n)
+    ∙ ap (λ y. best (eligibleAt states held priorities y) (numberIn priorities) n) e

@@ -1,12 +1,13 @@
 -- A scheduler's arrays seen as the machine's table, entries and open sections.
 use mathlib.Core.List.{List, [], _∷_, _++_}
-use mathlib.Core.Bool.{Bool, false, _&&_}
+use mathlib.Core.Bool.{Bool, false, not, _&&_}
 use Prim.Native.Nat.{ℕ, zero, suc, _+_, _*_}
 use lib.Dec.{ltb, eqb}
 use lib.ListN.{getD}
 use Rattle.protocol.specs.Tasks.{Table}
 use Rattle.searches.specs.Searches.{Place, nowhere, at, ifHere, only}
 use Rattle.protocol.specs.State.{Status, none, ready, waiting, asleep, Entry, Section, State, isReady, isAsleep}
+use Rattle.protocol.specs.Running.{inForce}
 use Rattle.protocol.specs.Checks.{numbered}
 use Rattle.protocol.specs.Acting.{section}
 
@@ -72,9 +73,9 @@ ranked n priorities settings = tasksBy n priorities settings [] []
 abbrev pub users : ℕ → List ℕ → List ℕ → Table
 users n priorities uses = tasksBy n priorities [] [] uses
 
--- the jobs, with their started marks
-abbrev pub jobs : List ℕ → List Bool → ℕ → Entry
-jobs states started = entriesBy states started [] [] [] []
+-- the jobs, with their started marks and the resources that they hold
+abbrev pub jobs : List ℕ → List Bool → List ℕ → ℕ → Entry
+jobs states started held = entriesBy states started [] [] held []
 
 -- the held resources
 abbrev pub holders : List ℕ → ℕ → Entry
@@ -82,9 +83,13 @@ holders held = entriesBy [] [] [] [] held []
 
 -- ---- tests of a place
 
--- whether the job is ready and above the level y
-abbrev pub eligibleAt : List ℕ → List ℕ → ℕ → ℕ → Bool
-eligibleAt states priorities y i = isReady (statusOf (getD states i 0)) && ltb y (getD priorities i 0)
+-- whether a job is ready and, under the system priority y, eligible: by the number of its state, the resource that it holds and its priority
+abbrev pub eligibleBy : ℕ → ℕ → ℕ → ℕ → Bool
+eligibleBy state held y p = isReady (statusOf state) && inForce y p (not (eqb held 0))
+
+-- whether the job at a place is
+abbrev pub eligibleAt : List ℕ → List ℕ → List ℕ → ℕ → ℕ → Bool
+eligibleAt states held priorities y i = eligibleBy (getD states i 0) (getD held i 0) y (getD priorities i 0)
 
 -- whether the task has the priority p
 abbrev pub ofPriority : List ℕ → ℕ → ℕ → Bool

@@ -6,7 +6,7 @@ ghost use lib.Dec.{ltb, eqb};
 ghost use Rattle.searches.specs.Searches.{only};
 ghost use Rattle.protocol.specs.State.{following, isNone, isReady, isAsleep};
 ghost use Rattle.protocol.specs.Acting.{admittedBy};
-ghost use Rattle.arrays.specs.View.{statusOf, ownNumber};
+ghost use Rattle.arrays.specs.View.{statusOf, ownNumber, eligibleBy};
 ghost use Rattle.arrays.specs.Stores.{wokenNumber};
 use crate::Number;
 
@@ -52,6 +52,24 @@ pub fn is_ready(state: u8) -> bool
     ensures { λ r. ⌜ r ≡ isReady (statusOf state) ⌝ }
 {
     state == 1
+}
+
+// Whether a job is ready and eligible: it is above the system priority, or holds a section.
+pub fn is_eligible(state: u8, held: u8, system: u8, priority: u8) -> bool
+    ensures { λ r. ⌜ r ≡ eligibleBy state held system priority ⌝ }
+{
+    let ready = is_ready(state);
+    ready & ((system < priority) | (held != 0))
+}
+
+// Whether a job is ready and eligible, and has the highest priority. That is tried first, as few have it.
+pub fn is_leading(state: u8, held: u8, system: u8, priority: u8, highest: u8) -> bool
+    ensures { λ r. ⌜ r ≡ eligibleBy state held system priority && eqb priority highest ⌝ }
+{
+    if priority != highest {
+        return false;
+    }
+    is_eligible(state, held, system, priority)
 }
 
 // Whether a job is asleep.

@@ -10,7 +10,7 @@ use crate::sections::count_at;
 
 // A release: 11 with no such task, 12 with a job that is unfinished.
 pub fn release_rule(states: &[u8; 32], place: usize) -> u8
-    ensures { λ r. ⌜ r ≡ refusalOf (found 11 (placeOf place) (releasing (jobs (now (states .entry)) []))) ⌝ }
+    ensures { λ r. ⌜ r ≡ refusalOf (found 11 (placeOf place) (releasing (jobs (now (states .entry)) [] []))) ⌝ }
 {
     if 32 <= place {
         return 11;

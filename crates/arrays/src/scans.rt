@@ -4,12 +4,13 @@ ghost use mathlib.Core.List.{[]};
 ghost use Prim.Native.Nat.{_≤_, _<_};
 ghost use lib.ListN.{getD};
 ghost use Rattle.searches.specs.Searches.{first, largest, only};
-ghost use Rattle.protocol.specs.Running.{systemPriority, aboveSystem, running};
+ghost use Rattle.protocol.specs.Running.{systemPriority, inForce, running};
 ghost use Rattle.arrays.specs.View.{ranked, jobs, eligibleAt, ofPriority, ofNumber, sleeping, placeOf, passing};
 use crate::Number;
 use crate::marks::has_number;
 use crate::marks::is_asleep;
-use crate::marks::is_ready;
+use crate::marks::is_eligible;
+use crate::marks::is_leading;
 use crate::marks::is_unfinished;
 use crate::marks::larger;
 use crate::marks::only_if;
@@ -22,7 +23,7 @@ fn system_priority<'a>(
     tasks: usize,
 ) -> u8
     requires { ⌜ tasks ≤ 32 ⌝ }
-    ensures { λ r. ⌜ r ≡ systemPriority (ranked tasks [] (now (settings .entry))) (jobs (now (states .entry)) (now (started .entry))) ⌝ }
+    ensures { λ r. ⌜ r ≡ systemPriority (ranked tasks [] (now (settings .entry))) (jobs (now (states .entry)) (now (started .entry)) []) ⌝ }
 {
     let mut highest: u8 = 0;
     let mut i: usize = 0;
@@ -34,41 +35,48 @@ fn system_priority<'a>(
     highest
 }
 
-// The highest priority of a ready job above the level, 0 where there is none.
-fn highest_ready<'a>(states: &'a [u8; 32], priorities: &'a [u8; 32], tasks: usize, level: u8) -> u8
+// The highest priority of a ready job that is eligible under the system priority, 0 where there is none.
+fn highest_eligible<'a>(
+    states: &'a [u8; 32],
+    held: &'a [u8; 32],
+    priorities: &'a [u8; 32],
+    tasks: usize,
+    system: u8,
+) -> u8
     requires { ⌜ tasks ≤ 32 ⌝ }
-    ensures { λ r. ⌜ r ≡ largest (λ i. only (eligibleAt (now (states .entry)) (now (priorities .entry)) level i) (getD (now (priorities .entry)) i 0)) tasks ⌝ }
+    ensures { λ r. ⌜ r ≡ largest
+        (λ i. only (eligibleAt (now (states .entry)) (now (held .entry)) (now (priorities .entry)) system i) (getD (now (priorities .entry)) i 0)) tasks ⌝ }
 {
     let mut highest: u8 = 0;
     let mut i: usize = 0;
     while i < tasks {
         let p = priorities[i];
-        let test = is_ready(states[i]) & (level < p);
-        highest = larger(highest, only_if(test, p));
+        let eligible = is_eligible(states[i], held[i], system, p);
+        highest = larger(highest, only_if(eligible, p));
         i += 1;
     }
     highest
 }
 
-// The place of the running job, or 32: the first ready job above the system priority that has the highest priority of these.
+// The place of the running job, or 32: the first of the eligible ready jobs that has the highest priority of these.
 pub fn running_place<'a>(
     states: &'a [u8; 32],
     started: &'a [bool; 32],
+    held: &'a [u8; 32],
     settings: &'a [u8; 32],
     priorities: &'a [u8; 32],
     tasks: usize,
 ) -> usize
     requires { ⌜ tasks ≤ 32 ⌝ }
-    ensures { λ r. ⌜ placeOf r ≡ running aboveSystem (ranked tasks (now (priorities .entry)) (now (settings .entry)))
-        (jobs (now (states .entry)) (now (started .entry))) ⌝ }
+    ensures { λ r. ⌜ placeOf r ≡ running inForce (ranked tasks (now (priorities .entry)) (now (settings .entry)))
+        (jobs (now (states .entry)) (now (started .entry)) (now (held .entry))) ⌝ }
 {
     let system = system_priority(states, started, settings, tasks);
-    let highest = highest_ready(states, priorities, tasks, system);
+    let highest = highest_eligible(states, held, priorities, tasks, system);
     let mut i: usize = 0;
     while i < tasks {
-        let p = priorities[i];
-        let test = (is_ready(states[i]) & (system < p)) & (p == highest);
-        if test {
+        let leads = is_leading(states[i], held[i], system, priorities[i], highest);
+        if leads {
             return i;
         }
         i += 1;
@@ -114,6 +122,7 @@ fn numbered<'a>(
 pub fn caller<'a>(
     states: &'a [u8; 32],
     started: &'a [bool; 32],
+    held: &'a [u8; 32],
     settings: &'a [u8; 32],
     priorities: &'a [u8; 32],
     serials: &'a [u16; 32],
@@ -122,9 +131,10 @@ pub fn caller<'a>(
 ) -> usize
     requires { ⌜ tasks ≤ 32 ⌝ }
     ensures { λ r. ⌜ placeOf r ≡ passing (ofNumber (now (priorities .entry)) (now (serials .entry)) (job .priority) (job .serial))
-        (running aboveSystem (ranked tasks (now (priorities .entry)) (now (settings .entry))) (jobs (now (states .entry)) (now (started .entry)))) ⌝ }
+        (running inForce (ranked tasks (now (priorities .entry)) (now (settings .entry)))
+        (jobs (now (states .entry)) (now (started .entry)) (now (held .entry)))) ⌝ }
 {
-    let runs = running_place(states, started, settings, priorities, tasks);
+    let runs = running_place(states, started, held, settings, priorities, tasks);
     numbered(priorities, serials, runs, job)
 }
 

@@ -25,7 +25,8 @@ use Rattle.protocol.specs.Fit.{used, named, fit}
 use Rattle.protocol.specs.Checks.{Call}
 use Rattle.protocol.specs.Acting.{has, without}
 use Rattle.protocol.specs.Step.{Running, step}
-use Rattle.protocol.proofs.Cases.{answers, callsK, answersK, callsL, answersL}
+use Rattle.protocol.proofs.Listed.{answers}
+use Rattle.protocol.proofs.Cases.{callsK, answersK, callsL, answersL}
 use Rattle.scheduler.specs.View.{tableOf}
 use Rattle.scheduler.specs.Fresh.{timesOf, setUpBy, setUp}
 use Rattle.cases.specs.Tables.{A, C, D, E, G, H}
@@ -43,7 +44,7 @@ Holds (analysed-as s told verdict total) =
     (every (answerAt (analysed s 100000)) (length told) 0 ≡ told) × (analysed s 100000 .verdict ≡ verdict) × (analysed s 100000 .evaluations ≡ total)
 Holds (refused s number place) = (analysed s 100000 .refusal .number ≡ number) × (analysed s 100000 .refusal .place ≡ place)
 Holds (one-round s h values) = round (ownSystem s h) (begin (ownSystem s h)) .vector ≡ values
-Holds (called s calls told) = answers (tableOf (setUp s .scheduler)) fresh calls ≡ told
+Holds (called s calls told) = answers machine.inForce (tableOf (setUp s .scheduler)) fresh calls ≡ told
 
 abbrev pub Hold : List Case → Type 0
 Hold [] = Unit {0}

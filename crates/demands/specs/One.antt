@@ -25,7 +25,7 @@ use Rattle.words.specs.Writing.{Put}
 use Rattle.notation.specs.Packing.{packInto}
 use Rattle.protocol.specs.Tasks.{priority}
 use Rattle.protocol.specs.State.{serial}
-use Rattle.protocol.specs.Running.{aboveSystem}
+use Rattle.protocol.specs.Running.{inForce}
 use Rattle.protocol.specs.Checks.{Call}
 use Rattle.protocol.specs.Trace.{released}
 use Rattle.protocol.specs.Numbers.{Entitled, releases, Wraps}
@@ -120,7 +120,7 @@ refused-changes-nothing = refused-same
 
 module _ {bytes : List ℕ} {h : Shape} {calls : ℕ → Call} {S : ℕ → Scheduler} {R : ℕ → Reply} (D : Driven bytes h calls S R) where
   -- an accepted call was made under the entitled job's number
-  pub only-entitled : (k : ℕ) → R k .refusal ≡ 0 → Entitled aboveSystem (tableOf (S k)) (stateOf (S k)) (calls k)
+  pub only-entitled : (k : ℕ) → R k .refusal ≡ 0 → Entitled inForce (tableOf (S k)) (stateOf (S k)) (calls k)
   only-entitled = calls-entitled D
 
   -- two releases of a task give one number exactly when the releases of the task between them are a multiple of 65,536

@@ -44,7 +44,7 @@ use Rattle.notation.proofs.Answers as answers
 use Rattle.notation.proofs.Fronts as fronts
 use Rattle.notation.proofs.Trips as texts
 use Rattle.notation.proofs.TrueFaults as truths
-use Rattle.protocol.specs.Running.{aboveSystem}
+use Rattle.protocol.specs.Running.{inForce}
 use Rattle.protocol.specs.Checks.{Call}
 use Rattle.protocol.specs.Step.{step}
 use Rattle.scheduler.specs.declared.Scheduler.{Scheduler}
@@ -92,7 +92,7 @@ answer-stands = replies.larger-allowance
 -- ---- calls
 
 -- each lock call does what the rules say: the state that it answers, seen, is the machine's next state
-pub call-follows : {s : Scheduler} → Sized s → (c : Call) → stateOf (replied s c .state) ≡ step aboveSystem (tableOf s) (stateOf s) c .state
+pub call-follows : {s : Scheduler} → Sized s → (c : Call) → stateOf (replied s c .state) ≡ step inForce (tableOf s) (stateOf s) c .state
 call-follows Z c = replied-follows Z c
 
 -- ---- tables

@@ -98,7 +98,7 @@ module _ {E : Rule} {T : ℕ → Table} {S : ℕ → State} {ev : ℕ → Event}
       go y lo hi z (yes d) = w .awake y lo d z
       go y lo hi z (no d) = by y lo hi (omega arith) z (next G y)
 
-module _ {E : Rule} {C : Counts} (F : Fair E C) {T : ℕ → Table} {S : ℕ → State} {ev : ℕ → Event} (G : Run E T S ev) where
+module _ {E : Rule} {C : Counts} {T : ℕ → Table} {S : ℕ → State} {ev : ℕ → Event} (F : Fair E C T S ev) (G : Run E T S ev) where
   module _ {p a k : ℕ} (h : Has ev p a k) where
     -- where the job stood when it met the section
     met-at : {o : ℕ} → (m : Met E C T S ev p a k o) → Stands (T (m .time)) (S (m .time)) p AwakeJob

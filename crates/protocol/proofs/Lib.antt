@@ -21,6 +21,10 @@ pub mod Meetings
 pub mod Pigeons
 pub mod Counting
 pub mod Numbering
+pub mod Idling
 pub mod Theorems
+pub mod Listed
 pub mod Cases
+pub mod Former
 pub mod Witness
+pub mod Needed

@@ -1,58 +1,61 @@
 -- A waiting job meets one section, an older one, whose ceiling reaches it.
 use mathlib.Core.Path.{_≡_, sym, ap, subst, _∙_}
 use mathlib.Core.Logic.{_⊎_, inl, inr}
-use mathlib.Core.Bool.{Bool, true}
 use Prim.Native.Nat.{ℕ, _≤_, _<_}
 use native.Mathlib.Omega.{arith}
 use native.Mathlib.Decide.{decLt, decLe}
 use Rattle.protocol.specs.Tasks.{Table, priority, setting}
-use Rattle.protocol.specs.State.{State, holds}
-use Rattle.protocol.specs.Running.{ceiling, systemPriority, Rule}
+use Rattle.protocol.specs.State.{State}
+use Rattle.protocol.specs.Running.{ceiling, Rule}
+use Rattle.protocol.specs.Acting.{section}
 use Rattle.protocol.specs.Trace.{Event, Open, Waits}
-use Rattle.protocol.specs.ShortWaits.{Counts, Sees, Meets}
+use Rattle.protocol.specs.ShortWaits.{Counts, pastSleepers, Sees, Counted, Meets}
 use Rattle.protocol.proofs.Chain.{low, high, chain-order, chain-within}
 use Rattle.protocol.proofs.Invariant.{Unfinished}
 use Rattle.protocol.proofs.Runner.{Runs, runs}
-use Rattle.protocol.proofs.Lows.{Awake, awake-live, holder-inside, tops-holders, Low, lows}
+use Rattle.protocol.proofs.Lows.{Awake, awake-live, holder-inside, tops-holders, Low, lows-past, frees}
 use Rattle.protocol.proofs.Runs.{Run, inv}
 use Rattle.protocol.proofs.Sections.{was-open, Opened, opened-by, opened-in, same-table}
 use Rattle.protocol.proofs.Exclusion.{open-once}
 use Rattle.protocol.proofs.Waiting.{awake-in, older}
 
--- Where a job counts, and a lower one may run, the job is above the system priority.
-abbrev pub Fair : Rule → Counts → Type 0
-Fair E C = (system p q : ℕ) (h : Bool) → E system q h ≡ true → q < p → C system p → system < p
-
-module _ {E : Rule} {C : Counts} (F : Fair E C) {T : ℕ → Table} {S : ℕ → State} {ev : ℕ → Event} (G : Run E T S ev) where
-  -- the job that waits, where a lower one runs
-  low-in : {p a q : ℕ} (k : ℕ) → Waits ev p a k → Sees E C T S ev p q k → (i : ℕ) × (i < T k .size) × (priority (T k) i ≡ p) × Low (T k) (S k) q i
-  low-in {p} {a} {q} k w v =
-      let R : Runs E (T k) (S k) q = runs (v .runs) in
-      let y = awake-in G k w in
-      let up : systemPriority (T k) (S k .entry) < p =
-      F (systemPriority (T k) (S k .entry)) p (priority (T k) q) (holds (S k .entry q)) (R .may) (v .lower) (v .counts) in (
-        y .0,
-        y .1,
-        y .2,
-        lows (G .lawful) (G .accepted k) (inv G k .sound) R (y .0) (y .3) (omega (arith, y .2)) (omega (arith, y .2, v .lower)),
-      )
-
-  -- a lower job that runs has a section open, and that was open when the wait began
+module _ {E : Rule} {C : Counts} {T : ℕ → Table} {S : ℕ → State} {ev : ℕ → Event} (G : Run E T S ev) where
+  -- a lower job that runs has a section open, and that was open when the wait began: where it held nothing, no awake job would be above it
   pub only-older : (p a q k : ℕ) → Waits ev p a k → Sees E C T S ev p q k
       → (o r : ℕ) × Open ev o (priority (T k) q) r k × Open ev o (priority (T k) q) r a
   only-older p a q k w v =
-      let l = low-in k w v .3 in
-      let x = opened-by G k (l .last) (l .is-open) in
-      let y : Open ev (x .0) (priority (T k) q) (l .last .resource) k =
-      subst (λ z. Open ev (x .0) (priority (T k) z) (l .last .resource) k) (l .held) (x .1) in
-      (x .0, l .last .resource, y, was-open y (older G k w (v .lower) y) (omega (arith, w .made)))
+      let I = inv G k .sound in
+      let i = awake-in G k w in
+      let R : Runs E (T k) (S k) q = runs (v .runs) in
+      let r = S k .entry q .held in
+      let x =
+      opened-by G k (section q r)
+      (I .each q .mark (λ z. omega (arith, i .2, v .lower, frees (G .lawful) (G .accepted k) I R z (i .0) (i .3)))) in
+      (x .0, r, x .1, was-open (x .1) (older G k w (v .lower) (x .1)) (omega (arith, w .made)))
+
+-- Where a state counts, and a lower job runs in it, the job that waits is past all sleepers.
+abbrev pub Fair : Rule → Counts → (ℕ → Table) → (ℕ → State) → (ℕ → Event) → Type 0
+Fair E C T S ev = (p q k : ℕ) → Sees E C T S ev p q k → Counted E C T S ev p k → pastSleepers (T k) (S k .entry) p
+
+module _ {E : Rule} {C : Counts} {T : ℕ → Table} {S : ℕ → State} {ev : ℕ → Event} (F : Fair E C T S ev) (G : Run E T S ev) where
+  -- the job that waits, where a lower one runs
+  low-in : {p a q : ℕ} (k : ℕ) → Waits ev p a k → Sees E C T S ev p q k → Counted E C T S ev p k
+      → (i : ℕ) × (i < T k .size) × (priority (T k) i ≡ p) × Low (T k) (S k) q i
+  low-in {p} {a} {q} k w v c =
+      let y = awake-in G k w in (
+        y .0,
+        y .1,
+        y .2,
+        lows-past (G .lawful) (G .accepted k) (inv G k .sound) (runs (v .runs)) (y .0) (y .3)
+            (subst (pastSleepers (T k) (S k .entry)) (sym (y .2)) (F p q k v c)) (omega (arith, y .2, v .lower)),
+      )
 
   -- the ceiling of the section that is met reaches the job
   met-reaches : {p a o : ℕ} (k : ℕ) → Waits ev p a k → (m : Meets E C T S ev p o k) → p ≤ ceiling (T k) (m .resource)
   met-reaches {p} {a} {o} k w m =
       let I = inv G k .sound in
       let A = G .accepted k in
-      let y = low-in k w (m .sees) in
+      let y = low-in k w (m .sees) (m .counted) in
       let l = y .3 in
       let x = opened-in G k (m .has) in
       let q : x .0 .place ≡ l .last .place =
@@ -97,10 +100,10 @@ module _ {E : Rule} {C : Counts} (F : Fair E C) {T : ℕ → Table} {S : ℕ →
       go (no gt) = sym (earlier-same k j w v (omega arith) n m)
 
   -- after its first sleep a job meets only sections of tasks above its own setting
-  pub above-setting : (p a q k i : ℕ) → i < T k .size → priority (T k) i ≡ p → Waits ev p a k → Sees E C T S ev p q k
+  pub above-setting : (p a q k i : ℕ) → i < T k .size → priority (T k) i ≡ p → Waits ev p a k → Sees E C T S ev p q k → Counted E C T S ev p k
       → 0 < S k .entry i .sleeps → setting (T k) i < priority (T k) q
-  above-setting p a q k i lt e w v rested =
-      let y = low-in k w v in
+  above-setting p a q k i lt e w v c rested =
+      let y = low-in k w v c in
       let s : y .0 ≡ i = G .accepted k .unique (y .0) i (y .1) lt (y .2 ∙ sym e) in
       go (subst (Low (T k) (S k) q) s (y .3)) (decLt (setting (T k) i) (priority (T k) q))
     where

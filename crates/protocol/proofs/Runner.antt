@@ -1,14 +1,15 @@
 -- The running job: what is known of it in any state, and in a fresh one.
 use mathlib.Core.Path.{_≡_, refl, subst}
+use mathlib.Core.Logic.{_⊎_, inl, inr}
 use mathlib.Core.Bool.{Bool, true, false, not, _&&_}
 use Prim.Native.Nat.{ℕ, _≤_, _<_}
 use native.Mathlib.Nat.{le-refl}
 use native.Mathlib.Omega.{arith}
 use native.Mathlib.Decide.{ℕ-discrete}
 use borrow.Author.Tests.{lt-ltb, ne-eqb}
-use Rattle.searches.specs.Searches.{at, only}
+use Rattle.searches.specs.Searches.{at, largest, only}
 use Rattle.searches.proofs.Testing.{impossible, and-true}
-use Rattle.searches.proofs.Searching.{Best, best-found, largest-reaches, largest-below}
+use Rattle.searches.proofs.Searching.{Best, best-found, largest-reaches, largest-below, largest-attained}
 use Rattle.protocol.specs.Tasks.{Table, priority, setting}
 use Rattle.protocol.specs.State.{Status, none, ready, waiting, asleep, Entry, State, fresh, holds, isNone, isReady}
 use Rattle.protocol.specs.Running.{ceiling, systemPriority, Rule, eligible, running}
@@ -47,6 +48,29 @@ priority-below T f m h =
     go true ready n k = k refl (λ e. impossible cc)
     go true waiting n k = k refl (λ e. impossible cc)
     go true asleep n k = k refl (λ e. impossible cc)
+
+-- the system priority, above 0, is the setting of a started, unfinished job
+pub priority-of : (T : Table) (f : ℕ → Entry) → 0 < systemPriority T f
+    → (j : ℕ) × (j < T .size) × (f j .started ≡ true) × Unfinished (f j) × (setting T j ≡ systemPriority T f)
+unfolding systemPriority
+priority-of T f up = go (largest-attained adds (T .size))
+  where
+    adds : ℕ → ℕ
+    adds j = only (f j .started && not (isNone (f j .status))) (setting T j)
+
+    counts : (b : Bool) (x : Status) (n m : ℕ) → 0 < m → only (b && not (isNone x)) n ≡ m → (b ≡ true) × (x ≡ none → ⊥) × (n ≡ m)
+    counts false x n m p e = absurd (omega arith)
+    counts true none n m p e = absurd (omega arith)
+    counts true ready n m p e = (refl, λ q. impossible cc, e)
+    counts true waiting n m p e = (refl, λ q. impossible cc, e)
+    counts true asleep n m p e = (refl, λ q. impossible cc, e)
+
+    go : (largest adds (T .size) ≡ 0) ⊎ ((j : ℕ) × (j < T .size) × (adds j ≡ largest adds (T .size)))
+        → (j : ℕ) × (j < T .size) × (f j .started ≡ true) × Unfinished (f j) × (setting T j ≡ largest adds (T .size))
+    go (inl z) = absurd (omega arith)
+    go (inr w) =
+        let c = counts (f (w .0) .started) (f (w .0) .status) (setting T (w .0)) (largest adds (T .size)) up (w .2) in
+        (w .0, w .1, c .0, c .1, c .2)
 
 -- ---- held marks
 

@@ -1,28 +1,34 @@
--- What is proved of the lock scheduler: its waits are short, its refusals change nothing, and its job numbers say whose call it is.
-use mathlib.Core.Path.{_≡_, refl, ap, _∙_}
+-- What is proved of the lock scheduler: its refusals change nothing, its waits are short, it is idle only behind sleepers, and its job numbers say
+-- whose call it is.
+use mathlib.Core.Path.{_≡_, refl, sym, ap, _∙_}
 use mathlib.Core.Logic.{_↔_}
-use mathlib.Core.Bool.{true}
+use mathlib.Core.Bool.{true, or-true, or-false}
 use Prim.Native.Nat.{ℕ, suc, _%_, _<_}
 use native.Mathlib.Omega.{arith}
-use borrow.Author.Tests.{ltb-true, lt-ltb, eq-eqb}
-use Rattle.searches.specs.Searches.{only}
-use Rattle.protocol.specs.Tasks.{Table, priority}
-use Rattle.protocol.specs.State.{State, serial}
-use Rattle.protocol.specs.Running.{Rule, aboveSystem, running}
+use lib.Dec.{ltb}
+use borrow.Author.Tests.{ltb-true, eq-eqb}
+use Rattle.searches.specs.Searches.{Place, nowhere, at, only}
+use Rattle.searches.proofs.Testing.{impossible}
+use Rattle.protocol.specs.Tasks.{Table, priority, setting}
+use Rattle.protocol.specs.State.{none, asleep, Entry, State, serial}
+use Rattle.protocol.specs.Running.{Rule, inForce, running}
 use Rattle.protocol.specs.Fit.{fit}
-use Rattle.protocol.specs.Checks.{Call, release, resume, lock, unlock, suspend, complete, refuse, grant, ruling}
-use Rattle.protocol.specs.Step.{job, numberAt, step}
+use Rattle.protocol.specs.Checks.{Call, release, resume, lock, unlock, suspend, complete, Ruling, refuse, grant, ruling}
+use Rattle.protocol.specs.Acting.{act, settle}
+use Rattle.protocol.specs.Step.{idle, job, numberAt, answer, step}
 use Rattle.protocol.specs.Accepted.{Accepted, Lawful}
 use Rattle.protocol.specs.Trace.{Event, released, after, event}
-use Rattle.protocol.specs.ShortWaits.{Counts, always, whileAbove, ShortWaits}
+use Rattle.protocol.specs.ShortWaits.{Counts, always, whileAbove, pastSleepers, ShortWaits}
+use Rattle.protocol.specs.Idling.{Idle}
 use Rattle.protocol.specs.Numbers.{Entitled, releasesOf, releases, Wraps}
-use Rattle.protocol.proofs.Lows.{held-once}
+use Rattle.protocol.proofs.Lows.{held-once, sleeper-below}
 use Rattle.protocol.proofs.Fitness.{sound-fit}
 use Rattle.protocol.proofs.Granted.{Caller, Granted, granted}
 use Rattle.protocol.proofs.Runs.{Run, inv, calls-run}
 use Rattle.protocol.proofs.Exclusion.{one-section-open, finds-free, finds-unheld}
 use Rattle.protocol.proofs.Meetings.{Fair, only-older, one-to-a-wait, above-setting}
 use Rattle.protocol.proofs.Counting.{one-more-than-sleeps}
+use Rattle.protocol.proofs.Idling.{above-passes, idle-state, someone-sleeps}
 use Rattle.protocol.proofs.Numbering.{next-counts, wraps}
 
 -- ---- refusals
@@ -39,40 +45,73 @@ refused-says E T s c n e = rw e
 
 -- ---- short waits
 
--- they are short in any run, where no job that counts is at or below the system priority while a lower one may run
-pub run-short-waits : {E : Rule} {C : Counts} → Fair E C → {T : ℕ → Table} {S : ℕ → State} {ev : ℕ → Event} → Run E T S ev → ShortWaits E C T S ev
+-- they are short in any run, where in a state that counts a job that sees a lower one run is past all sleepers
+pub run-short-waits : {E : Rule} {C : Counts} {T : ℕ → Table} {S : ℕ → State} {ev : ℕ → Event} → Fair E C T S ev → Run E T S ev → ShortWaits E C T S ev
 run-short-waits F G = record {
   one-section-open = one-section-open G;
   one-holder = λ k. held-once (G .accepted k) (inv G k .sound);
   finds-free = finds-free G;
   finds-unheld = finds-unheld G;
-  only-older = only-older F G;
+  only-older = only-older G;
   one-to-a-wait = one-to-a-wait F G;
   one-more-than-sleeps = one-more-than-sleeps F G;
   above-setting = above-setting F G;
 }
 
--- today's rule is lawful
-pub lawful : Lawful aboveSystem
+-- the rule in force is lawful
+pub lawful : Lawful inForce
 lawful = record {
-  above = λ system p h lt. lt-ltb system p lt;
-  only-above = λ system p e. ltb-true system p e;
-  rises = λ system p q e lt. lt-ltb system q (omega (arith, ltb-true system p e));
+  above = λ system p h lt. above-passes system p h lt;
+  only-above = λ system p e. ltb-true system p (sym (or-false (ltb system p)) ∙ e);
+  rises = λ system p q e lt. or-true (ltb system q);
 }
 
--- under any lawful rule waits are short, counting the states in which the job is above the system priority
-pub short-waits : (E : Rule) → Lawful E → (T : Table) → Accepted T → (calls : ℕ → Call)
-    → ShortWaits E whileAbove (λ k. T) (after E T calls) (event E T calls)
-short-waits E L T A calls = run-short-waits (λ system p q h e lt c. c) (calls-run L A calls)
+module _ (E : Rule) (L : Lawful E) (T : Table) (A : Accepted T) (calls : ℕ → Call) where
+  -- under any lawful rule waits are short, counting the states in which the job is past all sleepers
+  pub short-waits-past : ShortWaits E pastSleepers (λ k. T) (after E T calls) (event E T calls)
+  short-waits-past = run-short-waits (λ p q k v c. c) (calls-run L A calls)
 
--- under today's rule they are, counting every state: a lower job that runs is itself above the system priority
-pub short-waits-always : (T : Table) → Accepted T → (calls : ℕ → Call)
-    → ShortWaits aboveSystem always (λ k. T) (after aboveSystem T calls) (event aboveSystem T calls)
-short-waits-always T A calls = run-short-waits (λ system p q h e lt c. omega (arith, ltb-true system q e)) (calls-run lawful A calls)
+  -- so they are counting those in which it is above the system priority: a sleeper is started, and its setting is not above that
+  pub short-waits : ShortWaits E whileAbove (λ k. T) (after E T calls) (event E T calls)
+  short-waits = run-short-waits past (calls-run L A calls)
+    where
+      past : Fair E whileAbove (λ k. T) (after E T calls) (event E T calls)
+      past p q k v c j lt z = omega (arith, c, sleeper-below (inv (calls-run L A calls) k .sound) j lt z)
+
+  -- and where all settings are 0 counting every state
+  pub short-waits-always : ((i : ℕ) → i < T .size → setting T i ≡ 0) → ShortWaits E always (λ k. T) (after E T calls) (event E T calls)
+  short-waits-always zeros = run-short-waits (λ p q k v c j lt z. omega (arith, v .lower, zeros j lt)) (calls-run L A calls)
 
 -- no state that calls reach from a fresh scheduler is unfit
 pub never-unfit : (E : Rule) → Lawful E → (T : Table) → Accepted T → (calls : ℕ → Call) (k : ℕ) → fit T (after E T calls k) ≡ true
 never-unfit E L T A calls k = sound-fit A (inv (calls-run L A calls) k .sound)
+
+-- ---- idling
+
+module _ (T : Table) (A : Accepted T) (calls : ℕ → Call) (k : ℕ) where
+  -- under the rule in force nothing runs only where no section is open, and each unfinished job sleeps or is behind one that does
+  pub idle-only : running inForce T (after inForce T calls k .entry) ≡ nowhere → Idle T (after inForce T calls k)
+  idle-only = idle-state A (inv (calls-run lawful A calls) k .sound)
+
+  -- so where some job is unfinished and none sleeps, something runs
+  pub never-idle : (i : ℕ) → (after inForce T calls k .entry i .status ≡ none → ⊥)
+      → ((j : ℕ) → after inForce T calls k .entry j .status ≡ asleep → ⊥) → running inForce T (after inForce T calls k .entry) ≡ nowhere → ⊥
+  never-idle i u n e = let w = someone-sleeps (idle-only e) i u in n (w .0) (w .1)
+
+-- a call on a fit state answers idle only where nothing runs after it
+pub answered-idle : (E : Rule) (T : Table) (s : State) (c : Call) → fit T s ≡ true → step E T s c .running ≡ idle
+    → running E T (step E T s c .state .entry) ≡ nowhere
+unfolding step
+answered-idle E T s c f = go (ruling E T s c)
+  where
+    none-at : (h : ℕ → Entry) (p : Place) → numberAt T h p ≡ idle → p ≡ nowhere
+    none-at h nowhere e = refl
+    none-at h (at i) e = absurd (impossible cc)
+
+    go : (r : Ruling) → answer E T s c r .running ≡ idle → running E T (answer E T s c r .state .entry) ≡ nowhere
+    go (refuse n) e = none-at (s .entry) (running E T (s .entry)) (rw f at e)
+    go (grant i) e =
+        none-at (settle E T (act T s c i) .entry) (running E T (settle E T (act T s c i) .entry)) e
 
 -- ---- job numbers
 

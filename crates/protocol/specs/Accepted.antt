@@ -1,4 +1,4 @@
--- What is asked of a table and of a rule. Every table that the reader accepts is so, and today's rule is.
+-- What is asked of a table and of a rule. Every table that the reader accepts is so, and the rule in force is.
 use mathlib.Core.Path.{_≡_}
 use mathlib.Core.Bool.{Bool, true, false}
 use Prim.Native.Nat.{ℕ, _≤_, _<_}

@@ -8,4 +8,5 @@ pub mod Step
 pub mod Accepted
 pub mod Trace
 pub mod ShortWaits
+pub mod Idling
 pub mod Numbers

@@ -1,6 +1,6 @@
 -- Ceilings, the system priority, and the running job.
 use mathlib.Core.List.{List, [], _∷_}
-use mathlib.Core.Bool.{Bool, not, _&&_}
+use mathlib.Core.Bool.{Bool, not, _&&_, _||_}
 use Prim.Native.Nat.{ℕ}
 use lib.Dec.{ltb}
 use Rattle.searches.specs.Searches.{Place, best, largest, only}
@@ -28,9 +28,9 @@ systemPriority T f = largest (λ i. only (f i .started && not (isNone (f i .stat
 abbrev pub Rule : Type 0
 Rule = ℕ → ℕ → Bool → Bool
 
--- today's rule: a job above the system priority
-abbrev pub aboveSystem : Rule
-aboveSystem system p h = ltb system p
+-- the rule in force: a job above the system priority, and one that holds a section, whatever the system priority
+abbrev pub inForce : Rule
+inForce system p h = ltb system p || h
 
 -- whether the job at a place is ready and eligible
 abbrev pub eligible : Rule → Table → (ℕ → Entry) → ℕ → Bool

@@ -9,7 +9,7 @@ use borrow.Author.Tests.{ltb-true}
 use Rattle.protocol.specs.Tasks.{Table}
 use Rattle.searches.specs.Searches.{Place, nowhere, at, ifHere, first}
 use Rattle.protocol.specs.State.{Entry, holds, isNone}
-use Rattle.protocol.specs.Running.{aboveSystem, running}
+use Rattle.protocol.specs.Running.{inForce, running}
 use Rattle.protocol.specs.Checks.{Call, release, resume, lock, unlock, suspend, complete, Ruling, refuse, grant, demand, found, numbered, checks, releasing, locking, unlocking, suspending, completing}
 use Rattle.protocol.proofs.Granted.{Granted, granted}
 use Rattle.arrays.specs.View.{ranked, jobs, ofPriority, ofNumber, sleeping, placeOf, passing}
@@ -96,7 +96,7 @@ module _ (T : Table) (f : ℕ → Entry) (i : ℕ) (h : i < 32) where
 pub record Found (s : Scheduler) (c : Call) (n i : ℕ) (f : ℕ → Ruling) : Type 0 where
   pub sized : Sized s
   pub fits : Fit s
-  pub comes : checks aboveSystem (tableOf s) (stateOf s) c ≡ found n (placeOf i) f
+  pub comes : checks inForce (tableOf s) (stateOf s) c ≡ found n (placeOf i) f
 
 -- the code's number is the machine's
 pub asked : {s : Scheduler} {c : Call} {n i m : ℕ} {f : ℕ → Ruling} → Found s c n i f → m ≡ refusalOf (found n (placeOf i) f) → Asked s c m
@@ -107,8 +107,8 @@ pub record Grants (s : Scheduler) (c : Call) (i : ℕ) : Type 0 where
   pub sized : Sized s
   pub fits : Fit s
   pub place : i < 32
-  pub grants : checks aboveSystem (tableOf s) (stateOf s) c ≡ grant i
-  pub passed : Granted aboveSystem (tableOf s) (stateOf s) c i
+  pub grants : checks inForce (tableOf s) (stateOf s) c ≡ grant i
+  pub passed : Granted inForce (tableOf s) (stateOf s) c i
 
 -- where the code's number is 0
 pub grants : {s : Scheduler} {c : Call} {n i m : ℕ} {f : ℕ → Ruling} → Found s c n i f → 0 < n → ((j : ℕ) → Ruled j (f j))
@@ -121,7 +121,7 @@ grants {s} {c} {n} {i} {m} {f} F h p e z =
       fits = F .fits;
       place = w .0;
       grants = g;
-      passed = granted aboveSystem (tableOf s) (stateOf s) c i (rw (F .fits .fits) g);
+      passed = granted inForce (tableOf s) (stateOf s) c i (rw (F .fits .fits) g);
     }
 
 -- ---- who is found
@@ -156,14 +156,14 @@ module _ {s : Scheduler} (Z : Sized s) (F : Fit s) where
   -- The other calls find the running job, if it has the number.
   pub record Calls (p n i : ℕ) : Type 0 where
     pub place : placeOf i ≡ passing (ofNumber (s .priorities) (s .serials) p n)
-        (running aboveSystem (ranked (s .tasks) (s .priorities) (s .settings)) (jobs (s .states) (s .started)))
+        (running inForce (ranked (s .tasks) (s .priorities) (s .settings)) (jobs (s .states) (s .started) (s .held)))
 
   module _ {p n i : ℕ} (R : Calls p n i) where
     -- so the checks come to its own
-    ran : (f : ℕ → Ruling) → found 13 (running aboveSystem (tableOf s) (entryOf s)) (λ j. demand 13 (numbered (tableOf s) (entryOf s) p n j) (f j))
+    ran : (f : ℕ → Ruling) → found 13 (running inForce (tableOf s) (entryOf s)) (λ j. demand 13 (numbered (tableOf s) (entryOf s) p n j) (f j))
         ≡ found 13 (placeOf i) f
     ran f =
-        passing-found 13 (numbered (tableOf s) (entryOf s) p n) (running aboveSystem (tableOf s) (entryOf s)) f
+        passing-found 13 (numbered (tableOf s) (entryOf s) p n) (running inForce (tableOf s) (entryOf s)) f
         ∙ ap (λ q. found 13 (passing (numbered (tableOf s) (entryOf s) p n) q) f) (sym (running-view s))
         ∙ ap (λ q. found 13 q f) (sym (R .place))
 

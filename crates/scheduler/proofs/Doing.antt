@@ -10,7 +10,7 @@ use lib.ListN.{length, getD, set, length-set}
 use lib.Seq.{getD-set-same, getD-set-other}
 use borrow.Author.Tests.{eqb-true}
 use Rattle.protocol.specs.State.{Status, none, ready, asleep, following, isReady}
-use Rattle.protocol.specs.Running.{ceiling, systemCeiling, aboveSystem, running}
+use Rattle.protocol.specs.Running.{ceiling, systemCeiling, inForce, running}
 use Rattle.protocol.specs.Checks.{release, resume, suspend, complete}
 use Rattle.searches.specs.Searches.{at}
 use Rattle.protocol.specs.Acting.{become, renewed, slept, admittedBy, admitted}
@@ -92,8 +92,8 @@ entries-sized Z a b c d e f = record {
 -- ---- the calls of the running job
 
 -- a running job's state is 1
-pub runs-one : (s : Scheduler) (i : ℕ) → running aboveSystem (tableOf s) (entryOf s) ≡ at i → getD (s .states) i 0 ≡ 1
-runs-one s i e = ready-one (getD (s .states) i 0) (runs {E = aboveSystem} {T = tableOf s} {s = stateOf s} e .stands)
+pub runs-one : (s : Scheduler) (i : ℕ) → running inForce (tableOf s) (entryOf s) ≡ at i → getD (s .states) i 0 ≡ 1
+runs-one s i e = ready-one (getD (s .states) i 0) (runs {E = inForce} {T = tableOf s} {s = stateOf s} e .stands)
 
 -- it ends
 pub complete-done : {s : Scheduler} {p n i : ℕ} → Grants s (complete p n) i

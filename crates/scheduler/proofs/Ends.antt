@@ -10,7 +10,7 @@ use borrow.Author.Tests.{eq-eqb, not-true}
 use Rattle.protocol.specs.Tasks.{Table}
 use Rattle.searches.specs.Searches.{Place, nowhere, at}
 use Rattle.protocol.specs.State.{State}
-use Rattle.protocol.specs.Running.{aboveSystem, running}
+use Rattle.protocol.specs.Running.{inForce, running}
 use Rattle.protocol.specs.Fit.{fit}
 use Rattle.protocol.specs.Checks.{Call, Ruling, refuse, grant, checks}
 use Rattle.protocol.specs.Acting.{begun, act, start, settle}
@@ -41,7 +41,7 @@ reply-same s m r a b c = λ i. record { refusal = a i; running = b i; state = c 
 pub unfit-replied : {s : Scheduler} (c : Call) → Sized s → fit (tableOf s) (stateOf s) ≡ false
     → unfitReply s ≡ replied s c
 unfolding step
-unfit-replied {s} c Z e = reply-same s (step aboveSystem (tableOf s) (stateOf s) c) _ (rw e) (rw (e, e)) (rw e (written-again Z (beside-self s)))
+unfit-replied {s} c Z e = reply-same s (step inForce (tableOf s) (stateOf s) c) _ (rw e) (rw (e, e)) (rw e (written-again Z (beside-self s)))
 
 -- so answers the code
 pub unfit-answered : (s : Scheduler) (c : Call) (b : Bool) → Sized s → Tested s b → not b ≡ true → unfitReply s ≡ replied s c
@@ -53,7 +53,7 @@ unfit-answered s c b Z e h = unfit-replied c Z (sym (fit-view s) ∙ sym e ∙ n
 pub record Asked (s : Scheduler) (c : Call) (n : ℕ) : Type 0 where
   pub sized : Sized s
   pub fits : Fit s
-  pub ruled : refusalOf (checks aboveSystem (tableOf s) (stateOf s) c) ≡ n
+  pub ruled : refusalOf (checks inForce (tableOf s) (stateOf s) c) ≡ n
 
 -- a number above 0 is a refusal
 refused-is : (q : Ruling) (n : ℕ) → refusalOf q ≡ n → 0 < n → q ≡ refuse n
@@ -62,7 +62,7 @@ refused-is (grant i) n e h = absurd (omega arith)
 
 -- the running job's number, as the code finds it
 pub runs-shown : (s : Scheduler) (i : ℕ) (x : Running)
-    → placeOf i ≡ running aboveSystem (ranked (s .tasks) (s .priorities) (s .settings)) (jobs (s .states) (s .started))
+    → placeOf i ≡ running inForce (ranked (s .tasks) (s .priorities) (s .settings)) (jobs (s .states) (s .started) (s .held))
     → x ≡ runningOf (numberAt (ranked 0 (s .priorities) []) (entriesBy [] [] [] [] [] (s .serials)) (placeOf i)) → x ≡ runs s
 runs-shown s i x p e = e ∙ ap runningOf (number-view s (placeOf i) ∙ ap (numberAt (tableOf s) (entryOf s)) (p ∙ running-view s))
 
@@ -71,15 +71,15 @@ pub refused-replied : {s : Scheduler} {c : Call} {n : ℕ} → Asked s c n → 0
 unfolding step
 refused-replied {s} {c} {n} A h =
     let f = A .fits .fits in
-    let e = refused-is (checks aboveSystem (tableOf s) (stateOf s) c) n (A .ruled) h in
-    reply-same s (step aboveSystem (tableOf s) (stateOf s) c) _ (rw (f, e)) (rw (f, e, f)) (rw (f, e) (written-again (A .sized) (beside-self s)))
+    let e = refused-is (checks inForce (tableOf s) (stateOf s) c) n (A .ruled) h in
+    reply-same s (step inForce (tableOf s) (stateOf s) c) _ (rw (f, e)) (rw (f, e, f)) (rw (f, e) (written-again (A .sized) (beside-self s)))
 
 -- ---- granted
 
 -- What a granted call has done, from the scheduler s to t: the machine's change of the job at the place i, and nothing that the view doesn't show.
 pub record Done (s t : Scheduler) (c : Call) (i : ℕ) : Type 0 where
   pub fits : Fit s
-  pub grants : checks aboveSystem (tableOf s) (stateOf s) c ≡ grant i
+  pub grants : checks inForce (tableOf s) (stateOf s) c ≡ grant i
   pub sized : Sized t
   pub acts : stateOf t ≡ act (tableOf s) (stateOf s) c i
   pub beside : Beside s t
@@ -139,12 +139,12 @@ number-started T s nowhere = refl
 number-started T s (at i) = rw (eq-eqb i i refl)
 
 -- the running job is one of the tasks
-running-below : (s : Scheduler) → s .tasks ≤ 32 → Below (running aboveSystem (tableOf s) (entryOf s))
-running-below s few = go (running aboveSystem (tableOf s) (entryOf s)) refl
+running-below : (s : Scheduler) → s .tasks ≤ 32 → Below (running inForce (tableOf s) (entryOf s))
+running-below s few = go (running inForce (tableOf s) (entryOf s)) refl
   where
-    go : (p : Place) → running aboveSystem (tableOf s) (entryOf s) ≡ p → Below p
+    go : (p : Place) → running inForce (tableOf s) (entryOf s) ≡ p → Below p
     go nowhere e = tt
-    go (at i) e = omega (arith, runner.runs {E = aboveSystem} {T = tableOf s} {s = stateOf s} e .inside)
+    go (at i) e = omega (arith, runner.runs {E = inForce} {T = tableOf s} {s = stateOf s} e .inside)
 
 -- a granted call answers who runs after it, and that job is started
 pub granted-replied : {s t : Scheduler} {c : Call} {i : ℕ} → Done s t c i → settledReply t ≡ replied s c
@@ -152,18 +152,18 @@ unfolding step
 granted-replied {s} {t} {c} {i} D =
     let f = D .fits .fits in
     let T = tableOf s in
-    let marks = startedAt (t .started) (running aboveSystem (tableOf t) (entryOf t)) in
+    let marks = startedAt (t .started) (running inForce (tableOf t) (entryOf t)) in
     let same = same-table (D .beside .same) in
     let few : t .tasks ≤ 32 = omega (arith, D .beside .same .tasks, D .fits .few) in
-    let v = started-view t (running aboveSystem (tableOf t) (entryOf t)) (D .sized) (running-below t few) in
-    let number : runs t ≡ runningOf (numberAt T (entryOf t) (running aboveSystem T (entryOf t))) =
-    ap (λ U. runningOf (numberAt U (entryOf t) (running aboveSystem U (entryOf t)))) same in
-    let next : stateOf (withStarted t marks) ≡ settle aboveSystem T (stateOf t) = v .0 ∙ ap (λ U. settle aboveSystem U (stateOf t)) same in
-    let still : numberAt T (settle aboveSystem T (stateOf t) .entry) (running aboveSystem T (settle aboveSystem T (stateOf t) .entry))
-    ≡ numberAt T (entryOf t) (running aboveSystem T (entryOf t)) =
-    ap (numberAt T (settle aboveSystem T (stateOf t) .entry)) (running-settled T (D .fits .below) (stateOf t))
-    ∙ number-started T (stateOf t) (running aboveSystem T (entryOf t)) in
-    reply-same s (step aboveSystem T (stateOf s) c) _
+    let v = started-view t (running inForce (tableOf t) (entryOf t)) (D .sized) (running-below t few) in
+    let number : runs t ≡ runningOf (numberAt T (entryOf t) (running inForce T (entryOf t))) =
+    ap (λ U. runningOf (numberAt U (entryOf t) (running inForce U (entryOf t)))) same in
+    let next : stateOf (withStarted t marks) ≡ settle inForce T (stateOf t) = v .0 ∙ ap (λ U. settle inForce U (stateOf t)) same in
+    let still : numberAt T (settle inForce T (stateOf t) .entry) (running inForce T (settle inForce T (stateOf t) .entry))
+    ≡ numberAt T (entryOf t) (running inForce T (entryOf t)) =
+    ap (numberAt T (settle inForce T (stateOf t) .entry)) (running-settled T (D .fits .below) (stateOf t))
+    ∙ number-started T (stateOf t) (running inForce T (entryOf t)) in
+    reply-same s (step inForce T (stateOf s) c) _
     (rw (f, D .grants))
     (rw (f, D .grants, ← D .acts) (number ∙ ap runningOf (sym still)))
     (rw (f, D .grants, ← D .acts)

@@ -11,7 +11,7 @@ use lib.Seq.{ext-getD}
 use borrow.Author.Tests.{lt-ltb, le-ltb}
 use Rattle.searches.specs.Searches.{only}
 use Rattle.protocol.specs.State.{Status, none, ready, waiting, asleep, Section, State}
-use Rattle.protocol.specs.Running.{aboveSystem}
+use Rattle.protocol.specs.Running.{inForce}
 use Rattle.protocol.specs.Fit.{fit}
 use Rattle.protocol.specs.Checks.{Call}
 use Rattle.protocol.specs.Acting.{section}
@@ -160,25 +160,25 @@ module _ (s : Scheduler) (Z : Sized s) (t : State) (B : Storable s t) where
 
 module _ {s : Scheduler} (Z : Sized s) (c : Call) where
   -- the next state fits the arrays, where the state is fit
-  next-storable : Fit s → Storable s (step aboveSystem (tableOf s) (stateOf s) c .state)
+  next-storable : Fit s → Storable s (step inForce (tableOf s) (stateOf s) c .state)
   next-storable F = record {
-    past = λ k h. step-past aboveSystem (tableOf s) (stateOf s) k (omega (arith, F .few)) c;
-    low = step-unused aboveSystem (tableOf s) (stateOf s) 0 (λ i. refl) (λ i. refl) c;
-    high = λ k r h. step-unused aboveSystem (tableOf s) (stateOf s) (suc r) (λ i. rw (le-ltb r 16 h)) (λ i. rw (le-ltb r 16 h)) c k;
-    few = step-few aboveSystem (tableOf s) (stateOf s) (omega (arith, F .room, sections-length (s .places) (s .resources) (s .sections))) c;
+    past = λ k h. step-past inForce (tableOf s) (stateOf s) k (omega (arith, F .few)) c;
+    low = step-unused inForce (tableOf s) (stateOf s) 0 (λ i. refl) (λ i. refl) c;
+    high = λ k r h. step-unused inForce (tableOf s) (stateOf s) (suc r) (λ i. rw (le-ltb r 16 h)) (λ i. rw (le-ltb r 16 h)) c k;
+    few = step-few inForce (tableOf s) (stateOf s) (omega (arith, F .room, sections-length (s .places) (s .resources) (s .sections))) c;
   }
 
   -- an unfit state stays
-  unfit-keeps : fit (tableOf s) (stateOf s) ≡ false → step aboveSystem (tableOf s) (stateOf s) c .state ≡ stateOf s
+  unfit-keeps : fit (tableOf s) (stateOf s) ≡ false → step inForce (tableOf s) (stateOf s) c .state ≡ stateOf s
   unfolding step
   unfit-keeps e = rw e
 
   -- the reply's state, seen, is the machine's next state
-  pub replied-follows : stateOf (replied s c .state) ≡ step aboveSystem (tableOf s) (stateOf s) c .state
+  pub replied-follows : stateOf (replied s c .state) ≡ step inForce (tableOf s) (stateOf s) c .state
   replied-follows = go (fit (tableOf s) (stateOf s)) refl
     where
-      go : (b : Bool) → fit (tableOf s) (stateOf s) ≡ b → stateOf (replied s c .state) ≡ step aboveSystem (tableOf s) (stateOf s) c .state
-      go true e = written-seen s Z (step aboveSystem (tableOf s) (stateOf s) c .state) (next-storable (fit-known s e))
+      go : (b : Bool) → fit (tableOf s) (stateOf s) ≡ b → stateOf (replied s c .state) ≡ step inForce (tableOf s) (stateOf s) c .state
+      go true e = written-seen s Z (step inForce (tableOf s) (stateOf s) c .state) (next-storable (fit-known s e))
       go false e = sym (ap (λ r. stateOf (r .state)) (unfit-replied c Z e)) ∙ sym (unfit-keeps e)
 
   -- its table is the same
@@ -187,4 +187,4 @@ module _ {s : Scheduler} (Z : Sized s) (c : Call) where
 
   -- and its arrays have their lengths
   pub replied-sized : Sized (replied s c .state)
-  replied-sized = written-sized Z (step aboveSystem (tableOf s) (stateOf s) c .state)
+  replied-sized = written-sized Z (step inForce (tableOf s) (stateOf s) c .state)

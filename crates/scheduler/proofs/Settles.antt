@@ -1,6 +1,6 @@
 -- Starting the running job doesn't alter which job runs, in any state whose settings are below their priorities.
 use mathlib.Core.Path.{_≡_, refl, sym, _∙_}
-use mathlib.Core.Bool.{Bool, true, false, not, _&&_}
+use mathlib.Core.Bool.{Bool, true, false, not, _&&_, _||_, or-true}
 use Prim.Native.Nat.{ℕ, _≤_, _<_, max}
 use native.Mathlib.Nat.{le-refl}
 use native.Mathlib.Omega.{arith}
@@ -8,8 +8,8 @@ use lib.Dec.{ltb}
 use borrow.Author.Tests.{lt-ltb, ltb-true}
 use Rattle.protocol.specs.Tasks.{Table, priority, setting}
 use Rattle.searches.specs.Searches.{Place, nowhere, at, largest, only}
-use Rattle.protocol.specs.State.{Entry, State, isNone, isReady}
-use Rattle.protocol.specs.Running.{systemPriority, aboveSystem, eligible, running}
+use Rattle.protocol.specs.State.{Entry, State, holds, isNone, isReady}
+use Rattle.protocol.specs.Running.{systemPriority, inForce, eligible, running}
 use Rattle.protocol.specs.Acting.{put, begun, start}
 use Rattle.searches.proofs.Testing.{and-true, true-and}
 use Rattle.searches.proofs.Searching.{largest-reaches, largest-below}
@@ -17,19 +17,23 @@ use Rattle.searches.proofs.Leading.{Leads, leads-best, best-leads, only-most}
 use Rattle.protocol.proofs.Entries.{put-each}
 
 module _ (T : Table) (below : (i : ℕ) → i < T .size → setting T i < priority T i) (f : ℕ → Entry) (i : ℕ)
-    (runs : running aboveSystem T f ≡ at i) where
+    (runs : running inForce T f ≡ at i) where
   -- the entries with the running job started
   abbrev next : ℕ → Entry
   next = put f i (begun (f i))
 
   -- what makes it the running job
-  lead : Leads (eligible aboveSystem T f) (priority T) (T .size) i
+  lead : Leads (eligible inForce T f) (priority T) (T .size) i
   unfolding running
-  lead = best-leads (eligible aboveSystem T f) (priority T) (T .size) i runs
+  lead = best-leads (eligible inForce T f) (priority T) (T .size) i runs
 
   -- who is ready is the same
   ready-same : (k : ℕ) → isReady (next k .status) ≡ isReady (f k .status)
   ready-same k = put-each (λ e. isReady (e .status) ≡ isReady (f k .status)) f i (begun (f i)) k (λ e. rw e) (λ ne. refl)
+
+  -- and who holds
+  holds-same : (k : ℕ) → holds (next k) ≡ holds (f k)
+  holds-same k = put-each (λ e. holds e ≡ holds (f k)) f i (begun (f i)) k (λ e. rw e) (λ ne. refl)
 
   -- what an entry adds to the system priority
   abbrev counted : Entry → ℕ → ℕ
@@ -52,17 +56,13 @@ module _ (T : Table) (below : (i : ℕ) → i < T .size → setting T i < priori
       largest-below (λ k. counted (f k) k) (T .size) (largest (λ k. counted (next k) k) (T .size))
       (λ k lt. omega (arith, counted-rises k, largest-reaches (λ k. counted (next k) k) (T .size) k lt (le-refl (counted (next k) k))))
 
-  -- the running job is above it before
-  above : systemPriority T f < priority T i
-  above = ltb-true (systemPriority T f) (priority T i) (and-true (isReady (f i .status)) (ltb (systemPriority T f) (priority T i)) (lead .passes) .1)
-
-  -- and after, since its own setting is below its priority
-  still-above : systemPriority T next < priority T i
+  -- and stays below the running job where it was so: that job's own setting is below its priority
+  still-above : systemPriority T f < priority T i → systemPriority T next < priority T i
   unfolding systemPriority
-  still-above =
+  still-above up =
       omega (
         arith,
-        above,
+        up,
         below i (lead .within),
         largest-below (λ k. counted (next k) k) (T .size) (max (largest (λ k. counted (f k) k) (T .size)) (setting T i)) each,
       )
@@ -73,30 +73,45 @@ module _ (T : Table) (below : (i : ℕ) → i < T .size → setting T i < priori
           (λ e. rw e (omega (arith, only-most (not (isNone (f i .status))) (setting T i))))
           (λ ne. omega (arith, largest-reaches (λ k. counted (f k) k) (T .size) k lt (le-refl (counted (f k) k))))
 
+  -- who passes under a higher system priority passes under a lower one
+  passes-below : (x y p : ℕ) (h : Bool) → (y < p → x < p) → inForce y p h ≡ true → inForce x p h ≡ true
+  passes-below x y p h less e = go (ltb y p) refl e
+    where
+      go : (b : Bool) → ltb y p ≡ b → b || h ≡ true → inForce x p h ≡ true
+      go true t d = rw (lt-ltb x p (less (ltb-true y p t)))
+      go false t d = rw d (or-true (ltb x p))
+
   -- who is eligible after was so before
-  was-eligible : (k : ℕ) → eligible aboveSystem T next k ≡ true → eligible aboveSystem T f k ≡ true
+  was-eligible : (k : ℕ) → eligible inForce T next k ≡ true → eligible inForce T f k ≡ true
   was-eligible k e =
-      let w = and-true (isReady (next k .status)) (ltb (systemPriority T next) (priority T k)) e in
+      let w = and-true (isReady (next k .status)) (inForce (systemPriority T next) (priority T k) (holds (next k))) e in
       true-and (sym (ready-same k) ∙ w .0)
-      (lt-ltb (systemPriority T f) (priority T k) (omega (arith, system-rises, ltb-true (systemPriority T next) (priority T k) (w .1))))
+      (passes-below (systemPriority T f) (systemPriority T next) (priority T k) (holds (f k)) (λ lt. omega (arith, system-rises))
+      (rw (← holds-same k) (w .1)))
+
+  -- the running job is eligible still
+  still-eligible : eligible inForce T next i ≡ true
+  still-eligible =
+      let w = and-true (isReady (f i .status)) (inForce (systemPriority T f) (priority T i) (holds (f i))) (lead .passes) in
+      true-and (ready-same i ∙ w .0)
+      (passes-below (systemPriority T next) (systemPriority T f) (priority T i) (holds (next i)) still-above
+      (rw (holds-same i) (w .1)))
 
   -- so it runs still
-  still-runs : running aboveSystem T next ≡ at i
+  still-runs : running inForce T next ≡ at i
   unfolding running
-  still-runs = leads-best (eligible aboveSystem T next) (priority T) (T .size) i (record {
+  still-runs = leads-best (eligible inForce T next) (priority T) (T .size) i (record {
     within = lead .within;
-    passes = true-and
-        (ready-same i ∙ and-true (isReady (f i .status)) (ltb (systemPriority T f) (priority T i)) (lead .passes) .0)
-        (lt-ltb (systemPriority T next) (priority T i) still-above);
+    passes = still-eligible;
     most = λ j lt e. lead .most j lt (was-eligible j e);
     first = λ j lt e. lead .first j lt (was-eligible j e);
   })
 
 -- the same job runs after it is started
 pub running-settled : (T : Table) → ((i : ℕ) → i < T .size → setting T i < priority T i) → (s : State)
-    → running aboveSystem T (start (running aboveSystem T (s .entry)) s .entry) ≡ running aboveSystem T (s .entry)
-running-settled T below s = go (running aboveSystem T (s .entry)) refl
+    → running inForce T (start (running inForce T (s .entry)) s .entry) ≡ running inForce T (s .entry)
+running-settled T below s = go (running inForce T (s .entry)) refl
   where
-    go : (p : Place) → running aboveSystem T (s .entry) ≡ p → running aboveSystem T (start p s .entry) ≡ p
+    go : (p : Place) → running inForce T (s .entry) ≡ p → running inForce T (start p s .entry) ≡ p
     go nowhere e = e
     go (at i) e = still-runs T below (s .entry) i e

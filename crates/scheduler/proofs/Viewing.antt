@@ -10,7 +10,7 @@ use lib.ListN.{length}
 use borrow.Author.Tests.{ltb-true, leb-true, lt-ltb, le-ltb, not-false}
 use Rattle.protocol.specs.Tasks.{priority, setting}
 use Rattle.searches.specs.Searches.{Place, nowhere, at, all}
-use Rattle.protocol.specs.Running.{ceiling, systemPriority, systemCeiling, aboveSystem, running}
+use Rattle.protocol.specs.Running.{ceiling, systemPriority, systemCeiling, inForce, running}
 use Rattle.protocol.specs.Fit.{named, fit}
 use Rattle.protocol.specs.Step.{numberAt}
 use Rattle.searches.proofs.Testing.{and-true}
@@ -33,8 +33,8 @@ no-place i le = rw (le-ltb i 32 le)
 
 module _ (s : Scheduler) where
   -- the running job
-  pub running-view : running aboveSystem (ranked (s .tasks) (s .priorities) (s .settings)) (jobs (s .states) (s .started))
-      ≡ running aboveSystem (tableOf s) (entryOf s)
+  pub running-view : running inForce (ranked (s .tasks) (s .priorities) (s .settings)) (jobs (s .states) (s .started) (s .held))
+      ≡ running inForce (tableOf s) (entryOf s)
   unfolding running systemPriority
   running-view = refl
 

@@ -6,7 +6,7 @@ use lib.Dec.{ltb, leb}
 use lib.ListN.{length, getD}
 use Rattle.searches.specs.Searches.{only}
 use Rattle.protocol.specs.State.{Status, none, ready, waiting, asleep, Section, State, isNone, isReady, isWaiting, isAsleep}
-use Rattle.protocol.specs.Running.{aboveSystem, running}
+use Rattle.protocol.specs.Running.{inForce, running}
 use Rattle.protocol.specs.Checks.{Call}
 use Rattle.protocol.specs.Acting.{section}
 use Rattle.protocol.specs.Step as machine
@@ -70,7 +70,7 @@ unfitReply s = record { refusal = 26; running = Running.Idle; state = s }
 
 -- who runs
 abbrev pub runs : Scheduler → Running
-runs s = runningOf (machine.numberAt (tableOf s) (entryOf s) (running aboveSystem (tableOf s) (entryOf s)))
+runs s = runningOf (machine.numberAt (tableOf s) (entryOf s) (running inForce (tableOf s) (entryOf s)))
 
 -- a refused call answers who runs, and leaves the state as it is
 abbrev pub refusedReply : Scheduler → ℕ → Reply
@@ -102,11 +102,11 @@ abbrev pub settledReply : Scheduler → Reply
 settledReply s = record {
   refusal = 0;
   running = runs s;
-  state = withStarted s (startedAt (s .started) (running aboveSystem (tableOf s) (entryOf s)));
+  state = withStarted s (startedAt (s .started) (running inForce (tableOf s) (entryOf s)));
 }
 
 -- ---- the reply to a call
 
 -- the reply to a call on the scheduler s
 abbrev pub replied : Scheduler → Call → Reply
-replied s c = repliedBy s (machine.step aboveSystem (tableOf s) (stateOf s) c)
+replied s c = repliedBy s (machine.step inForce (tableOf s) (stateOf s) c)

@@ -102,6 +102,7 @@ impl Scheduler {
         let at = caller(
             &self.states,
             &self.started,
+            &self.held,
             &self.settings,
             &self.priorities,
             &self.serials,
@@ -138,6 +139,7 @@ impl Scheduler {
         let at = caller(
             &self.states,
             &self.started,
+            &self.held,
             &self.settings,
             &self.priorities,
             &self.serials,

@@ -86,6 +86,7 @@ impl Scheduler {
         let runs = running_place(
             &self.states,
             &self.started,
+            &self.held,
             &self.settings,
             &self.priorities,
             self.tasks,
@@ -106,6 +107,7 @@ impl Scheduler {
         let runs = running_place(
             &self.states,
             &self.started,
+            &self.held,
             &self.settings,
             &self.priorities,
             self.tasks,

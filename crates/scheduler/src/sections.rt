@@ -40,6 +40,7 @@ impl Scheduler {
         let at = caller(
             &self.states,
             &self.started,
+            &self.held,
             &self.settings,
             &self.priorities,
             &self.serials,
@@ -81,6 +82,7 @@ impl Scheduler {
         let at = caller(
             &self.states,
             &self.started,
+            &self.held,
             &self.settings,
             &self.priorities,
             &self.serials,

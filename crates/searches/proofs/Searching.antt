@@ -1,11 +1,12 @@
 -- What the searches over the places below a number find.
 use mathlib.Core.Path.{_≡_, refl, sym, _∙_}
+use mathlib.Core.Logic.{_⊎_, inl, inr}
 use mathlib.Core.Bool.{Bool, true, false, _&&_, _||_, and-false}
 use Prim.Native.Nat.{ℕ, zero, suc, _+_, _≤_, _<_, max}
 use native.Mathlib.Nat.{le-refl}
 use native.Mathlib.Numerals.{add-one}
 use native.Mathlib.Omega.{arith}
-use native.Mathlib.Decide.{ℕ-discrete}
+use native.Mathlib.Decide.{decLt, ℕ-discrete}
 use lib.Dec.{ltb}
 use borrow.Author.Tests.{ltb-true, ltb-false}
 use Rattle.searches.specs.Searches.{Place, nowhere, at, orElse, ifHere, first, beats, best, all, some, largest}
@@ -102,6 +103,18 @@ pub largest-below : (f : ℕ → ℕ) (n b : ℕ) → ((i : ℕ) → i < n → f
 unfolding largest
 largest-below f zero b h = omega arith
 largest-below f (suc k) b h = omega (arith, largest-below f k b (λ i lt. h i (omega arith)), h k (omega arith))
+
+-- the largest is 0, or one of the numbers
+pub largest-attained : (f : ℕ → ℕ) (n : ℕ) → (largest f n ≡ 0) ⊎ ((i : ℕ) × (i < n) × (f i ≡ largest f n))
+unfolding largest
+largest-attained f zero = inl refl
+largest-attained f (suc k) = go (decLt (largest f k) (f k)) (largest-attained f k)
+  where
+    go : Dec (largest f k < f k) → (largest f k ≡ 0) ⊎ ((i : ℕ) × (i < k) × (f i ≡ largest f k))
+        → (max (largest f k) (f k) ≡ 0) ⊎ ((i : ℕ) × (i < suc k) × (f i ≡ max (largest f k) (f k)))
+    go (yes lt) h = inr (k, omega arith, omega arith)
+    go (no ge) (inl z) = inl (omega arith)
+    go (no ge) (inr w) = inr (w .0, omega (arith, w .1), omega (arith, w .2))
 
 -- one number more
 pub largest-more : (f : ℕ → ℕ) (n : ℕ) → largest f (n + 1) ≡ max (largest f n) (f n)

@@ -15,50 +15,53 @@ use Rattle.arrays.proofs.scans.running_place.Statement.{statement}
 use Rattle.arrays.proofs.scans.running_place.Tie as tie
 
 -- whether the job may run, and has the highest priority
-abbrev leads : List ℕ → List ℕ → ℕ → ℕ → ℕ → Bool
-leads states priorities system highest i = eligibleAt states priorities system i && eqb (numberIn priorities i) highest
+abbrev leads : List ℕ → List ℕ → List ℕ → ℕ → ℕ → ℕ → Bool
+leads states held priorities system highest i = eligibleAt states held priorities system i && eqb (numberIn priorities i) highest
 
 abbrev Inv-loop : tie.InvT-loop
-Inv-loop states started settings priorities tasks system highest i₀ i =
-    (i ≤ tasks) × (first (leads states priorities system highest) i ≡ nowhere)
+Inv-loop states started held settings priorities tasks system highest i₀ i =
+    (i ≤ tasks) × (first (leads states held priorities system highest) i ≡ nowhere)
 
 abbrev μ-loop : tie.MeasureT-loop
-μ-loop states started settings priorities tasks system highest i₀ i = tasks - i
+μ-loop states started held settings priorities tasks system highest i₀ i = tasks - i
 
 system-priority-requires : tie.Need-system-priority-requires Inv-loop μ-loop
 system-priority-requires c κs = search needs
 
-highest-ready-requires : tie.Need-highest-ready-requires Inv-loop μ-loop
-highest-ready-requires c κs = search needs
+highest-eligible-requires : tie.Need-highest-eligible-requires Inv-loop μ-loop
+highest-eligible-requires c κs = search needs
 
 loop-holds : tie.Need-loop-holds Inv-loop μ-loop
 unfolding first
 loop-holds c = (omega arith, refl)
 
-element-copy-out-p : tie.Need-element-copy-out-p Inv-loop μ-loop
-element-copy-out-p c = omega arith
+element-copy-out-is-leading : tie.Need-element-copy-out-is-leading Inv-loop μ-loop
+element-copy-out-is-leading c = omega arith
 
-element-copy-out-is-ready : tie.Need-element-copy-out-is-ready Inv-loop μ-loop
-element-copy-out-is-ready c = omega arith
+element-copy-out-is-leading-2 : tie.Need-element-copy-out-is-leading-2 Inv-loop μ-loop
+element-copy-out-is-leading-2 c = omega arith
 
-is-ready-requires : tie.Need-is-ready-requires Inv-loop μ-loop
-is-ready-requires c κs = search needs
+element-copy-out-is-leading-3 : tie.Need-element-copy-out-is-leading-3 Inv-loop μ-loop
+element-copy-out-is-leading-3 c = omega arith
+
+is-leading-requires : tie.Need-is-leading-requires Inv-loop μ-loop
+is-leading-requires c κs = search needs
 
 returns : tie.Need-returns Inv-loop μ-loop
 returns c =
-    let entry = c .before .before .before .before .before .before .before .before in
-    let at-system-priority = c .before .before .before .before .before .before .before in
-    let at-highest-ready = c .before .before .before .before .before .before in
-    let at-loop = c .before .before .before .before .before in
-    let at-loop-test = c .before .before .before .before in
-    let found = running-found (entry .args .states .now) (entry .args .started .now) (entry .args .settings .now) (entry .args .priorities .now)
+    let entry = c .before .before .before .before .before .before .before .before .before in
+    let at-system-priority = c .before .before .before .before .before .before .before .before in
+    let at-highest-eligible = c .before .before .before .before .before .before .before in
+    let at-loop = c .before .before .before .before .before .before in
+    let at-loop-test = c .before .before .before .before .before in
+    let found = running-found (entry .args .states .now) (entry .args .started .now) (entry .args .held .now) (entry .args .settings .now) (entry .args .priorities .now)
     (entry .args .tasks)
-    (at-system-priority .system-priority .result) (at-highest-ready .highest-ready .result) (at-system-priority .system-priority .ensures)
-    (at-highest-ready .highest-ready .ensures) in
+    (at-system-priority .system-priority .result) (at-highest-eligible .highest-eligible .result) (at-system-priority .system-priority .ensures)
+    (at-highest-eligible .highest-eligible .ensures) in
     rw (lt-ltb (at-loop .loop .i) 32 (omega arith))
-    (sym (first-here (leads (entry .args .states .now) (entry .args .priorities .now) (at-system-priority .system-priority .result)
-    (at-highest-ready .highest-ready .result)) (at-loop .loop .i)
-    (entry .args .tasks) (at-loop .loop .inv .1) (rw (← c .before .is-ready .ensures) (c .if1 .taken)) (at-loop-test .loop-test .taken)) ∙ found)
+    (sym (first-here (leads (entry .args .states .now) (entry .args .held .now) (entry .args .priorities .now) (at-system-priority .system-priority .result)
+    (at-highest-eligible .highest-eligible .result)) (at-loop .loop .i)
+    (entry .args .tasks) (at-loop .loop .inv .1) (rw (← c .before .is-leading .ensures) (c .if1 .taken)) (at-loop-test .loop-test .taken)) ∙ found)
 
 add-i : tie.Need-add-i Inv-loop μ-loop
 add-i c = omega arith
@@ -68,28 +71,29 @@ loop-less c = omega arith
 
 loop-again : tie.Need-loop-again Inv-loop μ-loop
 loop-again c =
-    let entry = c .before .before .before .before .before .before .before .before in
-    let at-system-priority = c .before .before .before .before .before .before .before in
-    let at-highest-ready = c .before .before .before .before .before .before in
-    let at-loop = c .before .before .before .before .before in (
-      omega arith,
-      first-on (leads (entry .args .states .now) (entry .args .priorities .now) (at-system-priority .system-priority .result)
-          (at-highest-ready .highest-ready .result)) (at-loop .loop .i) (at-loop .loop .inv .1)
-          (rw (← c .before .is-ready .ensures) (c .if1 .left)),
+    let entry = c .before .before .before .before .before .before .before .before .before in
+    let at-system-priority = c .before .before .before .before .before .before .before .before in
+    let at-highest-eligible = c .before .before .before .before .before .before .before in
+    let at-loop = c .before .before .before .before .before .before in
+    let at-loop-test = c .before .before .before .before .before in (
+      omega (arith, at-loop-test .loop-test .taken),
+      first-on (leads (entry .args .states .now) (entry .args .held .now) (entry .args .priorities .now) (at-system-priority .system-priority .result)
+          (at-highest-eligible .highest-eligible .result)) (at-loop .loop .i) (at-loop .loop .inv .1)
+          (rw (← c .before .is-leading .ensures) (c .if1 .left)),
     )
 
 returns-2 : tie.Need-returns-2 Inv-loop μ-loop
 returns-2 c =
     let entry = c .before .before .before .before in
     let at-system-priority = c .before .before .before in
-    let at-highest-ready = c .before .before in
+    let at-highest-eligible = c .before .before in
     let e : c .before .loop .i ≡ entry .args .tasks = omega arith in
-    sym (c .before .loop .inv .1) ∙ ap (first (leads (entry .args .states .now) (entry .args .priorities .now)
-    (at-system-priority .system-priority .result) (at-highest-ready .highest-ready .result))) e
-    ∙ running-found (entry .args .states .now) (entry .args .started .now) (entry .args .settings .now) (entry .args .priorities .now)
+    sym (c .before .loop .inv .1) ∙ ap (first (leads (entry .args .states .now) (entry .args .held .now) (entry .args .priorities .now)
+    (at-system-priority .system-priority .result) (at-highest-eligible .highest-eligible .result))) e
+    ∙ running-found (entry .args .states .now) (entry .args .started .now) (entry .args .held .now) (entry .args .settings .now) (entry .args .priorities .now)
     (entry .args .tasks)
-    (at-system-priority .system-priority .result) (at-highest-ready .highest-ready .result) (at-system-priority .system-priority .ensures)
-    (at-highest-ready .highest-ready .ensures)
+    (at-system-priority .system-priority .result) (at-highest-eligible .highest-eligible .result) (at-system-priority .system-priority .ensures)
+    (at-highest-eligible .highest-eligible .ensures)
 
 pub running-place-spec : {M : Type 1} → statement M
 running-place-spec =
@@ -98,11 +102,12 @@ running-place-spec =
     Inv-loop
     μ-loop
     system-priority-requires
-    highest-ready-requires
+    highest-eligible-requires
     loop-holds
-    element-copy-out-p
-    element-copy-out-is-ready
-    is-ready-requires
+    element-copy-out-is-leading
+    element-copy-out-is-leading-2
+    element-copy-out-is-leading-3
+    is-leading-requires
     returns
     add-i
     loop-less

@@ -19,7 +19,7 @@ begun c = c .before .before .before .before .before .before .before .before
 
 -- where the state is found fit
 abbrev entered : tie.After-complete-rule → tie.Else1
-entered c = c .before .before .before .before .before .before .before .before .before .before
+entered c = c .before .before .before .before .before .before .before .before .before .before .before
 
 -- the scheduler that the call is made on
 abbrev given : tie.After-complete-rule → Scheduler
@@ -63,7 +63,7 @@ returns c =
 
 caller-requires : tie.Need-caller-requires
 caller-requires c κs =
-    let fitted = c .before .before .before .before .before .before in
+    let fitted = c .before .before .before .before .before .before .before in
     fitting fitted .few
 
 complete-rule-requires : tie.Need-complete-rule-requires

@@ -21,7 +21,7 @@ begun c = c .before .before .before .before .before .before .before .before
 
 -- where the state is found fit
 abbrev entered : tie.After-lock-rule → tie.Else1
-entered c = c .before .before .before .before .before .before .before .before .before .before .before .before
+entered c = c .before .before .before .before .before .before .before .before .before .before .before .before .before
 
 -- the scheduler that the call is made on
 abbrev given : tie.After-lock-rule → Scheduler
@@ -67,7 +67,7 @@ returns c =
 
 caller-requires : tie.Need-caller-requires
 caller-requires c κs =
-    let fitted = c .before .before .before .before .before .before in
+    let fitted = c .before .before .before .before .before .before .before in
     fitting fitted .few
 
 lock-rule-requires : tie.Need-lock-rule-requires
@@ -88,7 +88,7 @@ count-one-more-requires c κs =
     let granted = c .before .before .before .before in
     let at-lock-rule = granted .before in
     let at-caller = at-lock-rule .before .before .before .before .before in
-    let entry = at-caller .before .before .before .before .before .before .before .before .before .before .before .before .before .before .before in
+    let entry = begun (entered at-lock-rule) in
     let range = count-range (entry .args .t1 .uses) (at-caller .caller .result) (entry .args .resource) (granting granted .passed .2) in (
       (granting granted .place, range .0, range .1, granting granted .sized .opened),
       rw (c .before .count-at .ensures)

@@ -13,7 +13,7 @@ number-at-requires c κs = search needs
 returns : tie.Need-returns
 returns c =
     let at-running-place = c .before .before .before .before in
-    let entry = at-running-place .before .before .before .before .before .before in
+    let entry = at-running-place .before .before .before .before .before .before .before in
     λ i. record {
       refusal = entry .args .refusal;
       running = runs-shown (entry .args .t1) (at-running-place .running-place .result) (c .number-at .result)

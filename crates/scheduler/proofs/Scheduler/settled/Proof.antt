@@ -22,7 +22,7 @@ returns : tie.Need-returns
 returns c =
     let at-number-at = c .before .before in
     let at-running-place = at-number-at .before .before .before .before in
-    let entry = at-running-place .before .before .before .before .before .before in
+    let entry = at-running-place .before .before .before .before .before .before .before in
     let s = entry .args .t1 in
     let marks = c .start .ensures ∙ ap (startedAt (s .started)) (at-running-place .running-place .ensures ∙ running-view s) in
     λ i. record {

@@ -19,7 +19,7 @@ begun c = c .before .before .before .before .before .before .before .before
 
 -- where the state is found fit
 abbrev entered : tie.After-suspend-rule → tie.Else1
-entered c = c .before .before .before .before .before .before .before .before .before .before .before .before
+entered c = c .before .before .before .before .before .before .before .before .before .before .before .before .before
 
 -- the scheduler that the call is made on
 abbrev given : tie.After-suspend-rule → Scheduler
@@ -63,7 +63,7 @@ returns c =
 
 caller-requires : tie.Need-caller-requires
 caller-requires c κs =
-    let fitted = c .before .before .before .before .before .before in
+    let fitted = c .before .before .before .before .before .before .before in
     fitting fitted .few
 
 suspend-rule-requires : tie.Need-suspend-rule-requires
@@ -88,8 +88,8 @@ element-copy-out-one-more-2 c = granting (c .before) .place
 one-more-requires : tie.Need-one-more-requires
 one-more-requires c κs =
     let at-caller = c .before .before .before .before .before .before .before .before in
-    let entry = at-caller .before .before .before .before .before .before .before .before .before .before .before .before .before .before .before in
-    suspend-room (tableOf (entry .args .t1)) (entryOf (entry .args .t1))
+    let s = given (c .before .before .before) in
+    suspend-room (tableOf s) (entryOf s)
     (at-caller .caller .result) (granting (c .before .before) .place) (c .before .before .before .suspend-rule .ensures) (c .before .before .if2 .left)
 
 element-write-self-2 : tie.Need-element-write-self-2

@@ -23,7 +23,7 @@ begun c = c .before .before .before .before .before .before .before .before
 
 -- where the state is found fit
 abbrev entered : tie.After-unlock-rule → tie.Else1
-entered c = c .before .before .before .before .before .before .before .before .before .before
+entered c = c .before .before .before .before .before .before .before .before .before .before .before
 
 -- the scheduler that the call is made on
 abbrev given : tie.After-unlock-rule → Scheduler
@@ -67,7 +67,7 @@ returns c =
 
 caller-requires : tie.Need-caller-requires
 caller-requires c κs =
-    let fitted = c .before .before .before .before .before .before in
+    let fitted = c .before .before .before .before .before .before .before in
     fitting fitted .few
 
 unlock-rule-requires : tie.Need-unlock-rule-requires
@@ -102,9 +102,8 @@ count-if-requires c κs = search needs
 sub-left : tie.Need-sub-left
 sub-left c =
     let at-section-at = c .before .before .before .before .before in
-    let fitted = at-section-at .before .before .before .before .before .before .before .before .before .before .before .before .before .before .before in
-    let entry = fitted .before .before .before .before .before .before .before .before in
-    omega (arith, c .count-if .ensures, one-less (at-section-at .section-at .result) (entry .args .t1 .sections))
+    let granted = at-section-at .before .before .before .before in
+    omega (arith, c .count-if .ensures, one-less (at-section-at .section-at .result) (given (granted .before) .sections))
 
 last-open-requires : tie.Need-last-open-requires
 last-open-requires c κs =
@@ -124,12 +123,11 @@ wake-requires c κs =
     let at-remove = c .before .before .before .before .before .before .before .before .before .before .before .before .before .before in
     let at-section-at = at-remove .before .before in
     let granted = at-section-at .before .before .before .before in
-    let at-is-fit = granted .before .before .before .before .before .before .before .before .before .before .before .before in
-    let entry = at-is-fit .before .before .before .before .before .before .before in (
+    let s = given (granted .before) in (
       omega (
         arith,
         c .before .before .count-if2 .ensures,
-        only-most (ltb (at-section-at .section-at .result) (entry .args .t1 .sections)) (entry .args .t1 .tasks),
+        only-most (ltb (at-section-at .section-at .result) (s .sections)) (s .tasks),
         granting granted .fits .few,
       ),
       granting granted .sized .states,
@@ -151,14 +149,12 @@ returns-3 c =
     let at-remove = at-remove2 .before .before in
     let at-section-at = at-remove .before .before in
     let granted = at-section-at .before .before .before .before in
-    let at-is-fit = granted .before .before .before .before .before .before .before .before .before .before .before .before in
-    let entry = at-is-fit .before .before .before .before .before .before .before in
     c .settled .ensures ∙
     granted-replied (unlock-done (granting granted) (record {
       found = at-section-at .section-at .ensures;
       places-less = at-remove .remove .ensures;
       resources-less = at-remove2 .remove2 .ensures;
-      count = ap (λ m. entry .args .t1 .sections - m) (at-count-if .count-if .ensures);
+      count = ap (λ m. given (granted .before) .sections - m) (at-count-if .count-if .ensures);
       last = at-last-open .last-open .result;
       level = at-ceiling .ceiling .result;
       opens = at-last-open .last-open .ensures;
