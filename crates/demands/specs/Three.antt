@@ -9,7 +9,7 @@ use mathlib.Core.List.{List}
 use Rattle.searches.specs.Searches.{nowhere}
 use Rattle.table.specs.declared.Shape.{Shape}
 use Rattle.protocol.specs.Tasks.{Table, setting}
-use Rattle.protocol.specs.State.{none, asleep, fresh}
+use Rattle.protocol.specs.State.{none, asleep, State, fresh}
 use Rattle.protocol.specs.Running.{inForce, running}
 use Rattle.protocol.specs.Checks.{Call}
 use Rattle.protocol.specs.Accepted.{Accepted}
@@ -20,6 +20,7 @@ use Rattle.protocol.proofs.Theorems as machine
 use Rattle.protocol.proofs.Listed.{answers}
 use Rattle.protocol.proofs.Cases as cases
 use Rattle.protocol.proofs.Needed as needed
+use Rattle.protocol.proofs.Former as former
 use Rattle.scheduler.specs.declared.Scheduler.{Scheduler}
 use Rattle.scheduler.specs.declared.Running.{Running}
 use Rattle.scheduler.specs.declared.Reply.{Reply}
@@ -50,12 +51,15 @@ module _ {bytes : List ℕ} {h : Shape} {calls : ℕ → Call} {S : ℕ → Sche
       → ShortWaits inForce always (λ k. tableOf (S k)) (λ k. stateOf (S k)) (λ k. told (R k) (calls k))
   calls-wait-shortly-always = code.calls-short-waits-always D
 
--- where they aren't, not every state can count: at these two lists of calls a wait is of two sections, met by a job that never slept, and a job that
--- has slept sees a task run that is not above its own setting
-pub not-in-every-state : (OneToAWait inForce always (λ k. needed.twoTable) needed.twoStates needed.twoEvents → ⊥)
-    × (OneMoreThanSleeps inForce always (λ k. needed.twoTable) needed.twoStates needed.twoEvents → ⊥)
-    × (AboveSetting inForce always (λ k. needed.restedTable) needed.restedStates needed.restedEvents → ⊥)
-not-in-every-state = (needed.wait-of-two, needed.two-and-no-sleep, needed.at-its-setting)
+-- where they aren't, not every state can count: of these two accepted tables, after one list of calls each, a job that never slept meets two sections
+-- in one wait, and a job that has slept sees a task run that is not above its own setting
+pub not-in-every-state : (Accepted needed.twoTable × (OneToAWait inForce always (λ k. needed.twoTable) needed.twoStates needed.twoEvents → ⊥)
+    × (OneMoreThanSleeps inForce always (λ k. needed.twoTable) needed.twoStates needed.twoEvents → ⊥))
+    × (Accepted needed.restedTable × (AboveSetting inForce always (λ k. needed.restedTable) needed.restedStates needed.restedEvents → ⊥))
+not-in-every-state = (
+  (needed.two-accepted, needed.wait-of-two, needed.two-and-no-sleep),
+  (needed.rested-accepted, needed.at-its-setting),
+)
 
 -- ---- idling
 
@@ -77,3 +81,8 @@ module _ {bytes : List ℕ} {h : Shape} {calls : ℕ → Call} {S : ℕ → Sche
 -- at the fair: task 1 holds a section, task 3 sleeps above it with its setting, task 2 waits; task 1 runs, and then task 2
 pub at-the-fair : answers inForce cases.fairTable fresh cases.fairCalls ≡ cases.fairAnswers
 at-the-fair = cases.computed .2
+
+-- where all settings are 0, every list of calls is answered as when only a job above the system priority was eligible
+pub as-before : (T : Table) → Accepted T → ((i : ℕ) → i < T .size → setting T i ≡ 0) → (s : State) (calls : List Call)
+    → answers inForce T s calls ≡ answers former.aboveSystem T s calls
+as-before T = former.answers-same

@@ -73,7 +73,7 @@ module _ (T : Table) (below : (i : ℕ) → i < T .size → setting T i < priori
           (λ e. rw e (omega (arith, only-most (not (isNone (f i .status))) (setting T i))))
           (λ ne. omega (arith, largest-reaches (λ k. counted (f k) k) (T .size) k lt (le-refl (counted (f k) k))))
 
-  -- who passes under a higher system priority passes under a lower one
+  -- who is eligible under the system priority y is so under x, where above y means above x
   passes-below : (x y p : ℕ) (h : Bool) → (y < p → x < p) → inForce y p h ≡ true → inForce x p h ≡ true
   passes-below x y p h less e = go (ltb y p) refl e
     where

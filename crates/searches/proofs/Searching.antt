@@ -89,6 +89,12 @@ best-found test f (suc k) = go (best test f k) (test k) refl (best-found test f 
     go (at i) false t h =
         (omega (arith, h .0), h .1, one-place-more (λ j. test j ≡ true → f j ≤ f i) k (h .2) (λ d. absurd (impossible cc)))
 
+-- by tests that pass the same places it finds the same
+pub best-same : (test other : ℕ → Bool) (f : ℕ → ℕ) (n : ℕ) → ((i : ℕ) → i < n → test i ≡ other i) → best test f n ≡ best other f n
+unfolding best
+best-same test other f zero h = refl
+best-same test other f (suc k) h = rw (best-same test other f k (λ i lt. h i (omega arith)), h k (omega arith))
+
 -- ---- the largest
 
 -- the largest reaches what one of the numbers reaches

@@ -54,8 +54,8 @@ returns c =
     let at-highest-eligible = c .before .before .before .before .before .before .before in
     let at-loop = c .before .before .before .before .before .before in
     let at-loop-test = c .before .before .before .before .before in
-    let found = running-found (entry .args .states .now) (entry .args .started .now) (entry .args .held .now) (entry .args .settings .now) (entry .args .priorities .now)
-    (entry .args .tasks)
+    let found = running-found (entry .args .states .now) (entry .args .started .now) (entry .args .held .now)
+    (entry .args .settings .now) (entry .args .priorities .now) (entry .args .tasks)
     (at-system-priority .system-priority .result) (at-highest-eligible .highest-eligible .result) (at-system-priority .system-priority .ensures)
     (at-highest-eligible .highest-eligible .ensures) in
     rw (lt-ltb (at-loop .loop .i) 32 (omega arith))
@@ -90,8 +90,8 @@ returns-2 c =
     let e : c .before .loop .i ≡ entry .args .tasks = omega arith in
     sym (c .before .loop .inv .1) ∙ ap (first (leads (entry .args .states .now) (entry .args .held .now) (entry .args .priorities .now)
     (at-system-priority .system-priority .result) (at-highest-eligible .highest-eligible .result))) e
-    ∙ running-found (entry .args .states .now) (entry .args .started .now) (entry .args .held .now) (entry .args .settings .now) (entry .args .priorities .now)
-    (entry .args .tasks)
+    ∙ running-found (entry .args .states .now) (entry .args .started .now) (entry .args .held .now)
+    (entry .args .settings .now) (entry .args .priorities .now) (entry .args .tasks)
     (at-system-priority .system-priority .result) (at-highest-eligible .highest-eligible .result) (at-system-priority .system-priority .ensures)
     (at-highest-eligible .highest-eligible .ensures)
 
