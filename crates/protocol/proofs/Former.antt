@@ -21,8 +21,7 @@ use Rattle.protocol.specs.Accepted.{Accepted, Lawful}
 use Rattle.protocol.specs.Trace.{after, event}
 use Rattle.protocol.specs.ShortWaits.{always, ShortWaits}
 use Rattle.protocol.proofs.Runner.{priority-below, Runs, runs}
-use Rattle.protocol.proofs.Lows.{sleeper-below}
-use Rattle.protocol.proofs.Runs.{inv, calls-run}
+use Rattle.protocol.proofs.Runs.{calls-run}
 use Rattle.protocol.proofs.Meetings.{Fair}
 use Rattle.protocol.proofs.Theorems.{run-short-waits}
 use Rattle.protocol.proofs.Listed.{answers}
@@ -58,14 +57,13 @@ former-lawful = record {
 -- and under it waits were short counting every state: a lower job that ran was itself above the system priority
 pub former-short-waits : (T : Table) → Accepted T → (calls : ℕ → Call)
     → ShortWaits aboveSystem always (λ k. T) (after aboveSystem T calls) (event aboveSystem T calls)
-former-short-waits T A calls = run-short-waits past (calls-run former-lawful A calls)
+former-short-waits T A calls = run-short-waits above (calls-run former-lawful A calls)
   where
-    past : Fair aboveSystem always (λ k. T) (after aboveSystem T calls) (event aboveSystem T calls)
-    past p q k v c j lt z =
+    above : Fair aboveSystem always (λ k. T) (after aboveSystem T calls) (event aboveSystem T calls)
+    above p q k v c =
         let s = after aboveSystem T calls k in
         let R : Runs aboveSystem T s q = runs (v .runs) in
-        let above = ltb-true (systemPriority T (s .entry)) (priority T q) (R .may) in
-        omega (arith, v .lower, above, sleeper-below (inv (calls-run former-lawful A calls) k .sound) j lt z)
+        omega (arith, v .lower, ltb-true (systemPriority T (s .entry)) (priority T q) (R .may))
 
 -- ---- without settings
 

@@ -13,8 +13,8 @@ use Rattle.protocol.specs.Acting.{section}
 use Rattle.protocol.specs.Accepted.{Accepted, Lawful}
 use Rattle.protocol.specs.ShortWaits.{pastSleepers}
 use Rattle.protocol.proofs.Chain.{In, low, high, chain-last, chain-order, chain-within}
-use Rattle.protocol.proofs.Invariant.{Sound}
-use Rattle.protocol.proofs.Runner.{setting-below, priority-of, held-holds, Runs}
+use Rattle.protocol.proofs.Invariant.{Unfinished, Sound}
+use Rattle.protocol.proofs.Runner.{priority-of, held-holds, Runs}
 
 -- Ready or waiting.
 abbrev pub Awake : Status → Type 0
@@ -61,11 +61,6 @@ module _ {T : Table} (A : Accepted T) {s : State} (S : Sound T s) where
   held-once i j ne e =
       ap (λ t. t .place)
       (one-section (section i (s .entry i .held)) (section j (s .entry j .held)) (S .each i .mark ne) (S .each j .mark (λ z. ne (e ∙ z))) e)
-
--- a sleeper is started, so its setting is not above the system priority
-pub sleeper-below : {T : Table} {s : State} → Sound T s → (j : ℕ) → j < T .size → s .entry j .status ≡ asleep
-    → setting T j ≤ systemPriority T (s .entry)
-sleeper-below {T} {s} S j lt z = setting-below T (s .entry) j lt (S .each j .dozed z) (λ n. impossible cc)
 
 -- ---- the running job
 
@@ -142,36 +137,30 @@ module _ {E : Rule} (L : Lawful E) {T : Table} (A : Accepted T) {s : State} (S :
       go waiting e a =
           ⊎-elim (λ z. absurd (omega (arith, S .each i .waits e, z))) (λ w. under e (w .0) (w .1) (w .2)) (chain-last T 0 (s .sections))
 
-  -- so it is for an awake job that is past all sleepers: where the one whose setting is the system priority is awake, it waits there, and so does
-  -- every job between
-  pub lows-past : (i : ℕ) → Awake (s .entry i .status) → pastSleepers T (s .entry) (priority T i) → priority T q < priority T i → Low T s q i
-  lows-past i a past lt = go (decLt (systemPriority T (s .entry)) (priority T i))
+  -- who sees it run, and is past all sleepers, is above the system priority: the job whose setting that is, awake, would wait for a section that its
+  -- own setting reaches
+  pub past-above : (p : ℕ) → priority T q < p → pastSleepers T (s .entry) p → systemPriority T (s .entry) < p
+  past-above p lt past = go (decLt (systemPriority T (s .entry)) p)
     where
-      between : (j : ℕ) → Low T s q j → priority T i ≤ priority T j → (x : Status) → s .entry i .status ≡ x → Awake x → Low T s q i
-      between j l le none e b = absurd b
-      between j l le asleep e b = absurd b
-      between j l le ready e b =
-          absurd (omega (arith, l .reaches, S .each i .gap e (l .last) (l .is-open) (omega (arith, ap (priority T) (l .held)))))
-      between j l le waiting e b = record { waits = e; last = l .last; is-open = l .is-open; held = l .held; reaches = omega (arith, l .reaches) }
+      waits-not : (j : ℕ) → j < T .size → s .entry j .started ≡ true → Unfinished (s .entry j) → priority T q < setting T j
+          → setting T j ≡ systemPriority T (s .entry) → Awake (s .entry j .status) → ⊥
+      waits-not j lj b u le e a =
+          let l = lows j a (omega (arith, A .below j lj)) (omega (arith, A .below j lj)) in
+          omega (arith, l .reaches, S .each j .reach b u (l .last) (l .is-open) (omega (arith, ap (priority T) (l .held))))
 
-      awake : (j : ℕ) → j < T .size → setting T j ≡ systemPriority T (s .entry) → priority T i ≤ systemPriority T (s .entry)
-          → Awake (s .entry j .status) → Low T s q i
-      awake j lj e le b =
-          let under : systemPriority T (s .entry) < priority T j = omega (arith, A .below j lj) in
-          between j (lows j b under (omega arith)) (omega arith) (s .entry i .status) refl a
+      owner : (j : ℕ) → j < T .size → setting T j ≡ systemPriority T (s .entry) → p ≤ setting T j → (Awake (s .entry j .status) → ⊥)
+          → (x : Status) → s .entry j .status ≡ x → (x ≡ none → ⊥) → ⊥
+      owner j lj e le n none x u = u refl
+      owner j lj e le n ready x u = n (subst Awake (sym x) tt)
+      owner j lj e le n waiting x u = n (subst Awake (sym x) tt)
+      owner j lj e le n asleep x u = omega (arith, past j lj x)
 
-      owner : (j : ℕ) → j < T .size → setting T j ≡ systemPriority T (s .entry) → priority T i ≤ systemPriority T (s .entry)
-          → (x : Status) → s .entry j .status ≡ x → (x ≡ none → ⊥) → Low T s q i
-      owner j lj e le none x u = absurd (u refl)
-      owner j lj e le asleep x u = absurd (omega (arith, past j lj x))
-      owner j lj e le ready x u = awake j lj e le (subst Awake (sym x) tt)
-      owner j lj e le waiting x u = awake j lj e le (subst Awake (sym x) tt)
-
-      go : Dec (systemPriority T (s .entry) < priority T i) → Low T s q i
-      go (yes up) = lows i a up lt
+      go : Dec (systemPriority T (s .entry) < p) → systemPriority T (s .entry) < p
+      go (yes up) = up
       go (no ge) =
           let w = priority-of T (s .entry) (omega arith) in
-          owner (w .0) (w .1) (w .4) (omega arith) (s .entry (w .0) .status) refl (w .3)
+          let le : p ≤ setting T (w .0) = omega (arith, w .4) in
+          absurd (owner (w .0) (w .1) (w .4) le (waits-not (w .0) (w .1) (w .2) (w .3) (omega arith) (w .4)) (s .entry (w .0) .status) refl (w .3))
 
   -- where the running job holds nothing, no awake job is above it
   pub frees : s .entry q .held ≡ 0 → (i : ℕ) → Awake (s .entry i .status) → priority T i ≤ priority T q

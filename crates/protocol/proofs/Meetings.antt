@@ -6,14 +6,14 @@ use native.Mathlib.Omega.{arith}
 use native.Mathlib.Decide.{decLt, decLe}
 use Rattle.protocol.specs.Tasks.{Table, priority, setting}
 use Rattle.protocol.specs.State.{State}
-use Rattle.protocol.specs.Running.{ceiling, Rule}
+use Rattle.protocol.specs.Running.{ceiling, systemPriority, Rule}
 use Rattle.protocol.specs.Acting.{section}
 use Rattle.protocol.specs.Trace.{Event, Open, Waits}
-use Rattle.protocol.specs.ShortWaits.{Counts, pastSleepers, Sees, Counted, Meets}
+use Rattle.protocol.specs.ShortWaits.{Counts, Sees, Counted, Meets}
 use Rattle.protocol.proofs.Chain.{low, high, chain-order, chain-within}
 use Rattle.protocol.proofs.Invariant.{Unfinished}
 use Rattle.protocol.proofs.Runner.{Runs, runs}
-use Rattle.protocol.proofs.Lows.{Awake, awake-live, holder-inside, tops-holders, Low, lows-past, frees}
+use Rattle.protocol.proofs.Lows.{Awake, awake-live, holder-inside, tops-holders, Low, lows, frees}
 use Rattle.protocol.proofs.Runs.{Run, inv}
 use Rattle.protocol.proofs.Sections.{was-open, Opened, opened-by, opened-in, same-table}
 use Rattle.protocol.proofs.Exclusion.{open-once}
@@ -33,9 +33,9 @@ module _ {E : Rule} {C : Counts} {T : ℕ → Table} {S : ℕ → State} {ev : �
       (I .each q .mark (λ z. omega (arith, i .2, v .lower, frees (G .lawful) (G .accepted k) I R z (i .0) (i .3)))) in
       (x .0, r, x .1, was-open (x .1) (older G k w (v .lower) (x .1)) (omega (arith, w .made)))
 
--- Where a state counts, and a lower job runs in it, the job that waits is past all sleepers.
+-- Where a state counts, and a lower job runs in it, the job that waits is above the system priority.
 abbrev pub Fair : Rule → Counts → (ℕ → Table) → (ℕ → State) → (ℕ → Event) → Type 0
-Fair E C T S ev = (p q k : ℕ) → Sees E C T S ev p q k → Counted E C T S ev p k → pastSleepers (T k) (S k .entry) p
+Fair E C T S ev = (p q k : ℕ) → Sees E C T S ev p q k → Counted E C T S ev p k → systemPriority (T k) (S k .entry) < p
 
 module _ {E : Rule} {C : Counts} {T : ℕ → Table} {S : ℕ → State} {ev : ℕ → Event} (F : Fair E C T S ev) (G : Run E T S ev) where
   -- the job that waits, where a lower one runs
@@ -46,8 +46,8 @@ module _ {E : Rule} {C : Counts} {T : ℕ → Table} {S : ℕ → State} {ev : �
         y .0,
         y .1,
         y .2,
-        lows-past (G .lawful) (G .accepted k) (inv G k .sound) (runs (v .runs)) (y .0) (y .3)
-            (subst (pastSleepers (T k) (S k .entry)) (sym (y .2)) (F p q k v c)) (omega (arith, y .2, v .lower)),
+        lows (G .lawful) (G .accepted k) (inv G k .sound) (runs (v .runs)) (y .0) (y .3)
+            (omega (arith, y .2, F p q k v c)) (omega (arith, y .2, v .lower)),
       )
 
   -- the ceiling of the section that is met reaches the job

@@ -11,7 +11,7 @@ use Rattle.searches.specs.Searches.{Place, nowhere, at, only}
 use Rattle.searches.proofs.Testing.{impossible}
 use Rattle.protocol.specs.Tasks.{Table, priority, setting}
 use Rattle.protocol.specs.State.{none, asleep, Entry, State, serial}
-use Rattle.protocol.specs.Running.{Rule, inForce, running}
+use Rattle.protocol.specs.Running.{systemPriority, Rule, inForce, running}
 use Rattle.protocol.specs.Fit.{fit}
 use Rattle.protocol.specs.Checks.{Call, release, resume, lock, unlock, suspend, complete, Ruling, refuse, grant, ruling}
 use Rattle.protocol.specs.Acting.{act, settle}
@@ -21,7 +21,8 @@ use Rattle.protocol.specs.Trace.{Event, released, after, event}
 use Rattle.protocol.specs.ShortWaits.{Counts, always, whileAbove, pastSleepers, ShortWaits}
 use Rattle.protocol.specs.Idling.{Idle}
 use Rattle.protocol.specs.Numbers.{Entitled, releasesOf, releases, Wraps}
-use Rattle.protocol.proofs.Lows.{held-once, sleeper-below}
+use Rattle.protocol.proofs.Runner.{runs}
+use Rattle.protocol.proofs.Lows.{held-once, past-above}
 use Rattle.protocol.proofs.Fitness.{sound-fit}
 use Rattle.protocol.proofs.Granted.{Caller, Granted, granted}
 use Rattle.protocol.proofs.Runs.{Run, inv, calls-run}
@@ -45,7 +46,7 @@ refused-says E T s c n e = rw e
 
 -- ---- short waits
 
--- they are short in any run, where in a state that counts a job that sees a lower one run is past all sleepers
+-- they are short in any run, where in a state that counts a job that sees a lower one run is above the system priority
 pub run-short-waits : {E : Rule} {C : Counts} {T : ℕ → Table} {S : ℕ → State} {ev : ℕ → Event} → Fair E C T S ev → Run E T S ev → ShortWaits E C T S ev
 run-short-waits F G = record {
   one-section-open = one-section-open G;
@@ -67,20 +68,23 @@ lawful = record {
 }
 
 module _ (E : Rule) (L : Lawful E) (T : Table) (A : Accepted T) (calls : ℕ → Call) where
-  -- under any lawful rule waits are short, counting the states in which the job is past all sleepers
-  pub short-waits-past : ShortWaits E pastSleepers (λ k. T) (after E T calls) (event E T calls)
-  short-waits-past = run-short-waits (λ p q k v c. c) (calls-run L A calls)
-
-  -- so they are counting those in which it is above the system priority: a sleeper is started, and its setting is not above that
+  -- under any lawful rule waits are short, counting the states in which the job is above the system priority
   pub short-waits : ShortWaits E whileAbove (λ k. T) (after E T calls) (event E T calls)
-  short-waits = run-short-waits past (calls-run L A calls)
-    where
-      past : Fair E whileAbove (λ k. T) (after E T calls) (event E T calls)
-      past p q k v c j lt z = omega (arith, c, sleeper-below (inv (calls-run L A calls) k .sound) j lt z)
+  short-waits = run-short-waits (λ p q k v c. c) (calls-run L A calls)
+
+  -- who sees a lower job run, and is past all sleepers, is above the system priority
+  past-fair : (p q k : ℕ) → running E T (after E T calls k .entry) ≡ at q → priority T q < p → pastSleepers T (after E T calls k .entry) p
+      → systemPriority T (after E T calls k .entry) < p
+  past-fair p q k e lt past = past-above L A (inv (calls-run L A calls) k .sound) (runs e) p lt past
+
+  -- so they are counting the states in which it is past all sleepers
+  pub short-waits-past : ShortWaits E pastSleepers (λ k. T) (after E T calls) (event E T calls)
+  short-waits-past = run-short-waits (λ p q k v c. past-fair p q k (v .runs) (v .lower) c) (calls-run L A calls)
 
   -- and where all settings are 0 counting every state
   pub short-waits-always : ((i : ℕ) → i < T .size → setting T i ≡ 0) → ShortWaits E always (λ k. T) (after E T calls) (event E T calls)
-  short-waits-always zeros = run-short-waits (λ p q k v c j lt z. omega (arith, v .lower, zeros j lt)) (calls-run L A calls)
+  short-waits-always zeros =
+      run-short-waits (λ p q k v c. past-fair p q k (v .runs) (v .lower) (λ j lt z. omega (arith, v .lower, zeros j lt))) (calls-run L A calls)
 
 -- no state that calls reach from a fresh scheduler is unfit
 pub never-unfit : (E : Rule) → Lawful E → (T : Table) → Accepted T → (calls : ℕ → Call) (k : ℕ) → fit T (after E T calls k) ≡ true
