@@ -16,6 +16,7 @@ use Rattle.protocol.specs.Accepted.{Accepted}
 use Rattle.protocol.specs.Trace.{after, event}
 use Rattle.protocol.specs.ShortWaits.{always, whileAbove, pastSleepers, OneToAWait, OneMoreThanSleeps, AboveSetting, ShortWaits}
 use Rattle.protocol.specs.Idling.{Idle}
+use Rattle.protocol.proofs.Runner.{lawful}
 use Rattle.protocol.proofs.Theorems as machine
 use Rattle.protocol.proofs.Listed.{answers}
 use Rattle.protocol.proofs.Cases as cases
@@ -34,7 +35,7 @@ use Rattle.scheduler.proofs.Theorems as code
 -- of the rules, for every accepted table and every list of calls
 pub waits-are-short : (T : Table) → Accepted T → (calls : ℕ → Call)
     → ShortWaits inForce whileAbove (λ k. T) (after inForce T calls) (event inForce T calls)
-waits-are-short = machine.short-waits inForce machine.lawful
+waits-are-short = machine.short-waits inForce lawful
 
 module _ {bytes : List ℕ} {h : Shape} {calls : ℕ → Call} {S : ℕ → Scheduler} {R : ℕ → Reply} (D : Driven bytes h calls S R) where
   -- of the code: `S k` is the scheduler after k calls from `set_up` on accepted bytes, `R k` the reply to the call k; events are told by the replies

@@ -1,17 +1,15 @@
 -- A job has met at most one section more than it made sleeps: meetings with as many sleeps behind them are in one wait.
 use mathlib.Core.Path.{_≡_, refl, sym, ap, subst, _∙_}
-use mathlib.Core.List.{List}
 use mathlib.Core.Logic.{inl}
 use Prim.Native.Nat.{ℕ, zero, suc, _+_, _≤_, _<_}
 use native.Mathlib.Omega.{arith}
 use native.Mathlib.Decide.{decLt, decLe, ℕ-discrete}
-use lib.ListN.{length}
 use Rattle.searches.proofs.Testing.{impossible}
 use Rattle.protocol.specs.Tasks.{Table, priority}
 use Rattle.protocol.specs.State.{State}
 use Rattle.protocol.specs.Running.{Rule}
 use Rattle.protocol.specs.Trace.{Event, released, slept, ended, Waits, Has}
-use Rattle.protocol.specs.ShortWaits.{Among, Distinct, Counts, Met}
+use Rattle.protocol.specs.ShortWaits.{Counts, Met, OneMoreThanSleeps}
 use Rattle.protocol.proofs.Invariant.{Unfinished}
 use Rattle.protocol.proofs.Lows.{awake-live}
 use Rattle.protocol.proofs.Runs.{Link, by-call, by-change, Run, next}
@@ -135,8 +133,7 @@ module _ {E : Rule} {C : Counts} {T : ℕ → Table} {S : ℕ → State} {ev : �
         omega (arith, sleeps-rise G (m .time) k (x .0) i h (omega (arith, m .within .0, m .waits .made)) (m .within .1) (x .1) (x .2) lt e)
 
   -- so each section met has a number of sleeps of its own
-  pub one-more-than-sleeps : (p a k i : ℕ) → i < T k .size → priority (T k) i ≡ p → Has ev p a k
-      → (l : List ℕ) → Distinct l → ((o : ℕ) → Among o l → Met E C T S ev p a k o) → length l ≤ S k .entry i .sleeps + 1
+  pub one-more-than-sleeps : OneMoreThanSleeps E C T S ev
   one-more-than-sleeps p a k i lt e h l d m =
       pigeons (λ o x. (n : Met E C T S ev p a k o) × (x ≡ metSleeps h n))
       (λ o u x v w. one-by-sleeps h (v .0) (w .0) (sym (v .1) ∙ w .1))

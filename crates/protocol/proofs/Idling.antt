@@ -2,16 +2,15 @@
 use mathlib.Core.Path.{_≡_, refl, subst}
 use mathlib.Core.Logic.{_⊎_, inl, inr, ⊎-elim}
 use mathlib.Core.List.{List, [], _∷_}
-use mathlib.Core.Bool.{Bool, true, or-true}
+use mathlib.Core.Bool.{true, or-true}
 use Prim.Native.Nat.{ℕ, _≤_, _<_}
 use native.Mathlib.Omega.{arith}
 use native.Mathlib.Decide.{decLt, ℕ-discrete}
 use lib.Dec.{ltb}
-use borrow.Author.Tests.{lt-ltb}
 use Rattle.searches.specs.Searches.{nowhere}
 use Rattle.searches.proofs.Testing.{impossible}
 use Rattle.searches.proofs.Searching.{Best, best-found}
-use Rattle.protocol.specs.Tasks.{Table, priority, setting}
+use Rattle.protocol.specs.Tasks.{Table, priority}
 use Rattle.protocol.specs.State.{Status, none, ready, waiting, asleep, Section, State, holds}
 use Rattle.protocol.specs.Running.{systemPriority, inForce, eligible, running}
 use Rattle.protocol.specs.Acting.{section}
@@ -19,12 +18,8 @@ use Rattle.protocol.specs.Accepted.{Accepted}
 use Rattle.protocol.specs.Idling.{BehindSleeper, Idle}
 use Rattle.protocol.proofs.Chain.{In, chain-last}
 use Rattle.protocol.proofs.Invariant.{Sound}
-use Rattle.protocol.proofs.Runner.{priority-of, held-holds}
-use Rattle.protocol.proofs.Lows.{holder-inside, unheld}
-
--- a job above the system priority is eligible
-pub above-passes : (system p : ℕ) (h : Bool) → system < p → inForce system p h ≡ true
-above-passes system p h lt = rw (lt-ltb system p lt)
+use Rattle.protocol.proofs.Runner.{lawful, priority-of, held-holds}
+use Rattle.protocol.proofs.Lows.{Awake, awake-or-asleep, holder-inside, unheld}
 
 module _ {T : Table} (A : Accepted T) {s : State} (S : Sound T s) (idle : running inForce T (s .entry) ≡ nowhere) where
   -- no ready job is eligible
@@ -59,38 +54,44 @@ module _ {T : Table} (A : Accepted T) {s : State} (S : Sound T s) (idle : runnin
       ⊎-elim (λ z. omega (arith, S .each i .waits w, z, A .below i (S .each i .inside (λ n. impossible cc)))) (λ t. no-open (t .0) (t .1))
       (chain-last T 0 (s .sections))
 
-  -- a ready job is not above the system priority
-  ready-below : (i : ℕ) → i < T .size → s .entry i .status ≡ ready → priority T i ≤ systemPriority T (s .entry)
-  ready-below i lt r = go (decLt (systemPriority T (s .entry)) (priority T i))
+  -- so an awake job is ready
+  awake-ready : (i : ℕ) → Awake (s .entry i .status) → s .entry i .status ≡ ready
+  awake-ready i = go (s .entry i .status) refl
+    where
+      go : (x : Status) → s .entry i .status ≡ x → Awake x → x ≡ ready
+      go none e a = absurd a
+      go ready e a = refl
+      go waiting e a = absurd (none-waits i e)
+      go asleep e a = absurd a
+
+  -- and not above the system priority
+  awake-below : (i : ℕ) → i < T .size → Awake (s .entry i .status) → priority T i ≤ systemPriority T (s .entry)
+  awake-below i lt a = go (decLt (systemPriority T (s .entry)) (priority T i))
     where
       go : Dec (systemPriority T (s .entry) < priority T i) → priority T i ≤ systemPriority T (s .entry)
-      go (yes up) = absurd (none-eligible i lt r (above-passes (systemPriority T (s .entry)) (priority T i) (holds (s .entry i)) up))
+      go (yes up) = absurd (none-eligible i lt (awake-ready i a) (lawful .above (systemPriority T (s .entry)) (priority T i) (holds (s .entry i)) up))
       go (no ge) = omega arith
 
-  -- so it is behind a sleeper: the job whose setting is the system priority, which awake would be ready, and above its own setting
-  behind : (i : ℕ) → i < T .size → s .entry i .status ≡ ready → BehindSleeper T s i
-  behind i lt r =
-      let low = ready-below i lt r in
+  -- so it is behind a sleeper: the job whose setting is the system priority, which awake would not be above that
+  behind : (i : ℕ) → i < T .size → Awake (s .entry i .status) → BehindSleeper T s i
+  behind i lt a =
+      let low = awake-below i lt a in
       let w = priority-of T (s .entry) (omega (arith, low, A .below i lt)) in
-      record { sleeper = w .0; inside = w .1; sleeps = go (w .0) (w .1) (w .4) (s .entry (w .0) .status) refl (w .3); reaches = omega (arith, low, w .4) }
-    where
-      go : (j : ℕ) → j < T .size → setting T j ≡ systemPriority T (s .entry) → (x : Status) → s .entry j .status ≡ x → (x ≡ none → ⊥)
-          → s .entry j .status ≡ asleep
-      go j lj e none q u = absurd (u refl)
-      go j lj e ready q u = absurd (omega (arith, ready-below j lj q, A .below j lj))
-      go j lj e waiting q u = absurd (none-waits j q)
-      go j lj e asleep q u = q
+      record {
+        sleeper = w .0;
+        inside = w .1;
+        sleeps = ⊎-elim (λ b. absurd (omega (arith, awake-below (w .0) (w .1) b, A .below (w .0) (w .1), w .4))) (λ z. z)
+            (awake-or-asleep (s .entry (w .0) .status) (w .3));
+        reaches = omega (arith, low, w .4);
+      }
 
   -- all that is known of a state in which nothing runs
   pub idle-state : Idle T s
-  idle-state = record { none-open = empty (s .sections) no-open; none-holds = none-held; held-back = λ i u. go i u (s .entry i .status) refl }
-    where
-      go : (i : ℕ) → (s .entry i .status ≡ none → ⊥) → (x : Status) → s .entry i .status ≡ x
-          → (s .entry i .status ≡ asleep) ⊎ ((s .entry i .status ≡ ready) × BehindSleeper T s i)
-      go i u none e = absurd (u e)
-      go i u ready e = inr (e, behind i (S .each i .inside u) e)
-      go i u waiting e = absurd (none-waits i e)
-      go i u asleep e = inl e
+  idle-state = record {
+    none-open = empty (s .sections) no-open;
+    none-holds = none-held;
+    held-back = λ i u. ⊎-elim (λ a. inr (awake-ready i a, behind i (S .each i .inside u) a)) (λ z. inl z) (awake-or-asleep (s .entry i .status) u);
+  }
 
 -- where nothing runs and some job is unfinished, one sleeps
 pub someone-sleeps : {T : Table} {s : State} → Idle T s → (i : ℕ) → (s .entry i .status ≡ none → ⊥) → (j : ℕ) × (s .entry j .status ≡ asleep)

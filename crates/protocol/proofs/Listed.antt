@@ -3,20 +3,22 @@ use mathlib.Core.Path.{_≡_, refl, sym, _∙_}
 use mathlib.Core.List.{List, [], _∷_}
 use mathlib.Core.Logic.{_⊎_}
 use mathlib.Core.Bool.{Bool, true, false, not, _&&_, _||_, or-false}
-use Prim.Native.Nat.{ℕ, zero, suc, _≤_, _<_}
+use Prim.Native.Nat.{ℕ, zero, suc, _<_}
 use lib.Dec.{ltb, eqb}
-use borrow.Author.Tests.{ltb-true, lt-ltb, eqb-true, eq-eqb}
+use borrow.Author.Tests.{lt-ltb, eqb-true, eq-eqb}
 use Rattle.searches.specs.Searches.{at, all}
 use Rattle.searches.proofs.Testing.{impossible, true-and}
 use Rattle.searches.proofs.Searching.{all-each}
-use Rattle.protocol.specs.Tasks.{Table, priority, setting}
-use Rattle.protocol.specs.State.{State}
+use Rattle.protocol.specs.Tasks.{Table, priority}
+use Rattle.protocol.specs.State.{State, fresh}
 use Rattle.protocol.specs.Running.{Rule, running}
+use Rattle.protocol.specs.Fit.{fit}
 use Rattle.protocol.specs.Checks.{Call, release}
 use Rattle.protocol.specs.Step.{Running, step}
 use Rattle.protocol.specs.Accepted.{Accepted}
 use Rattle.protocol.specs.Trace.{Event, nothing, released, resumed, opened, closed, slept, ended, after, event, Open, Waits, Has}
 use Rattle.protocol.specs.ShortWaits.{Counts, Meets}
+use Rattle.protocol.proofs.Fitness.{fit-says}
 use Rattle.protocol.proofs.Steps.{subject}
 
 -- the refusals and running jobs that a list of calls is answered with
@@ -38,16 +40,12 @@ inTurn (c ∷ cs) (suc k) = inTurn cs k
 abbrev different : Table → Bool
 different T = all (λ i. all (λ j. eqb i j || not (eqb (priority T i) (priority T j))) (T .size)) (T .size)
 
--- whether each setting is below its priority
-abbrev under : Table → Bool
-under T = all (λ i. ltb (setting T i) (priority T i)) (T .size)
-
--- a table that passes these tests is accepted
-pub accepted-so : (T : Table) → T .size ≤ 32 → different T ≡ true → under T ≡ true → ((i : ℕ) → T .task i .uses 0 ≡ 0) → Accepted T
-accepted-so T few d u proper = record {
-  few = few;
+-- a table that passes this test, and under which a fresh state is fit, is accepted
+pub accepted-so : (T : Table) → fit T fresh ≡ true → different T ≡ true → ((i : ℕ) → T .task i .uses 0 ≡ 0) → Accepted T
+accepted-so T f d proper = record {
+  few = fit-says T fresh f .0;
   unique = λ i j li lj e. eqb-true i j (sym (or-false (eqb i j)) ∙ rw (eq-eqb (priority T i) (priority T j) e) at (pair i j li lj));
-  below = λ i lt. ltb-true (setting T i) (priority T i) (all-each (λ i. ltb (setting T i) (priority T i)) (T .size) u i lt);
+  below = fit-says T fresh f .1;
   proper = proper;
 }
   where

@@ -1,5 +1,5 @@
 -- Who can run in a sound state, and what a lower job that runs is doing.
-use mathlib.Core.Path.{_≡_, refl, sym, ap, subst, _∙_}
+use mathlib.Core.Path.{_≡_, refl, sym, ap, _∙_}
 use mathlib.Core.Logic.{_⊎_, inl, inr, ⊎-elim}
 use mathlib.Core.Bool.{Bool, true, false}
 use Prim.Native.Nat.{ℕ, _≤_, _<_}
@@ -29,6 +29,13 @@ awake-live none a e = a
 awake-live ready a e = impossible cc
 awake-live waiting a e = impossible cc
 awake-live asleep a e = a
+
+-- an unfinished one is awake or asleep
+pub awake-or-asleep : (x : Status) → (x ≡ none → ⊥) → Awake x ⊎ (x ≡ asleep)
+awake-or-asleep none u = absurd (u refl)
+awake-or-asleep ready u = inl tt
+awake-or-asleep waiting u = inl tt
+awake-or-asleep asleep u = inr refl
 
 -- ---- sections and their holders
 
@@ -148,19 +155,12 @@ module _ {E : Rule} (L : Lawful E) {T : Table} (A : Accepted T) {s : State} (S :
           let l = lows j a (omega (arith, A .below j lj)) (omega (arith, A .below j lj)) in
           omega (arith, l .reaches, S .each j .reach b u (l .last) (l .is-open) (omega (arith, ap (priority T) (l .held))))
 
-      owner : (j : ℕ) → j < T .size → setting T j ≡ systemPriority T (s .entry) → p ≤ setting T j → (Awake (s .entry j .status) → ⊥)
-          → (x : Status) → s .entry j .status ≡ x → (x ≡ none → ⊥) → ⊥
-      owner j lj e le n none x u = u refl
-      owner j lj e le n ready x u = n (subst Awake (sym x) tt)
-      owner j lj e le n waiting x u = n (subst Awake (sym x) tt)
-      owner j lj e le n asleep x u = omega (arith, past j lj x)
-
       go : Dec (systemPriority T (s .entry) < p) → systemPriority T (s .entry) < p
       go (yes up) = up
       go (no ge) =
           let w = priority-of T (s .entry) (omega arith) in
-          let le : p ≤ setting T (w .0) = omega (arith, w .4) in
-          absurd (owner (w .0) (w .1) (w .4) le (waits-not (w .0) (w .1) (w .2) (w .3) (omega arith) (w .4)) (s .entry (w .0) .status) refl (w .3))
+          ⊎-elim (λ a. absurd (waits-not (w .0) (w .1) (w .2) (w .3) (omega (arith, w .4)) (w .4) a)) (λ z. absurd (omega (arith, w .4, past (w .0) (w .1) z)))
+          (awake-or-asleep (s .entry (w .0) .status) (w .3))
 
   -- where the running job holds nothing, no awake job is above it
   pub frees : s .entry q .held ≡ 0 → (i : ℕ) → Awake (s .entry i .status) → priority T i ≤ priority T q

@@ -9,7 +9,7 @@ use Rattle.protocol.specs.State.{State}
 use Rattle.protocol.specs.Running.{ceiling, systemPriority, Rule}
 use Rattle.protocol.specs.Acting.{section}
 use Rattle.protocol.specs.Trace.{Event, Open, Waits}
-use Rattle.protocol.specs.ShortWaits.{Counts, Sees, Counted, Meets}
+use Rattle.protocol.specs.ShortWaits.{Counts, Sees, Counted, Meets, OneToAWait, AboveSetting}
 use Rattle.protocol.proofs.Chain.{low, high, chain-order, chain-within}
 use Rattle.protocol.proofs.Invariant.{Unfinished}
 use Rattle.protocol.proofs.Runner.{Runs, runs}
@@ -92,7 +92,7 @@ module _ {E : Rule} {C : Counts} {T : ℕ → Table} {S : ℕ → State} {ev : �
           absurd (omega (arith, t .2, m .sees .lower, met-reaches k w n, ap (ceiling (T j)) (x .3), ap (λ U. ceiling U (n .resource)) s))
 
   -- all meetings of one wait are with one section
-  pub one-to-a-wait : (p a j k o u : ℕ) → Waits ev p a j → Waits ev p a k → Meets E C T S ev p o j → Meets E C T S ev p u k → o ≡ u
+  pub one-to-a-wait : OneToAWait E C T S ev
   one-to-a-wait p a j k o u v w m n = go (decLe j k)
     where
       go : Dec (j ≤ k) → o ≡ u
@@ -100,8 +100,7 @@ module _ {E : Rule} {C : Counts} {T : ℕ → Table} {S : ℕ → State} {ev : �
       go (no gt) = sym (earlier-same k j w v (omega arith) n m)
 
   -- after its first sleep a job meets only sections of tasks above its own setting
-  pub above-setting : (p a q k i : ℕ) → i < T k .size → priority (T k) i ≡ p → Waits ev p a k → Sees E C T S ev p q k → Counted E C T S ev p k
-      → 0 < S k .entry i .sleeps → setting (T k) i < priority (T k) q
+  pub above-setting : AboveSetting E C T S ev
   above-setting p a q k i lt e w v c rested =
       let y = low-in k w v c in
       let s : y .0 ≡ i = G .accepted k .unique (y .0) i (y .1) lt (y .2 ∙ sym e) in

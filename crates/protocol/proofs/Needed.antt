@@ -33,8 +33,8 @@ abbrev pub twoTable : Table
 twoTable = record { size = 4; task = twoTasks }
 
 pub two-accepted : Accepted twoTable
-unfolding all
-two-accepted = accepted-so twoTable (omega arith) refl refl proper
+unfolding fit named all
+two-accepted = accepted-so twoTable refl refl proper
   where
     proper : (i : ℕ) → twoTasks i .uses 0 ≡ 0
     proper zero = refl
@@ -112,8 +112,8 @@ abbrev pub restedTable : Table
 restedTable = record { size = 3; task = restedTasks }
 
 pub rested-accepted : Accepted restedTable
-unfolding all
-rested-accepted = accepted-so restedTable (omega arith) refl refl proper
+unfolding fit named all
+rested-accepted = accepted-so restedTable refl refl proper
   where
     proper : (i : ℕ) → restedTasks i .uses 0 ≡ 0
     proper zero = refl

@@ -1,20 +1,32 @@
 -- The running job: what is known of it in any state, and in a fresh one.
-use mathlib.Core.Path.{_≡_, refl, subst}
+use mathlib.Core.Path.{_≡_, refl, sym, subst, _∙_}
 use mathlib.Core.Logic.{_⊎_, inl, inr}
-use mathlib.Core.Bool.{Bool, true, false, not, _&&_}
+use mathlib.Core.Bool.{Bool, true, false, not, _&&_, or-true, or-false}
 use Prim.Native.Nat.{ℕ, _≤_, _<_}
 use native.Mathlib.Nat.{le-refl}
 use native.Mathlib.Omega.{arith}
 use native.Mathlib.Decide.{ℕ-discrete}
-use borrow.Author.Tests.{lt-ltb, ne-eqb}
+use lib.Dec.{ltb}
+use borrow.Author.Tests.{ltb-true, lt-ltb, ne-eqb}
 use Rattle.searches.specs.Searches.{at, largest, only}
 use Rattle.searches.proofs.Testing.{impossible, and-true}
 use Rattle.searches.proofs.Searching.{Best, best-found, largest-reaches, largest-below, largest-attained}
 use Rattle.protocol.specs.Tasks.{Table, priority, setting}
 use Rattle.protocol.specs.State.{Status, none, ready, waiting, asleep, Entry, State, fresh, holds, isNone, isReady}
-use Rattle.protocol.specs.Running.{ceiling, systemPriority, Rule, eligible, running}
+use Rattle.protocol.specs.Running.{ceiling, systemPriority, Rule, inForce, eligible, running}
+use Rattle.protocol.specs.Accepted.{Lawful}
 use Rattle.protocol.proofs.Testing.{ready-is}
 use Rattle.protocol.proofs.Invariant.{Unfinished, Inv}
+
+-- ---- the rule in force
+
+-- it is lawful
+pub lawful : Lawful inForce
+lawful = record {
+  above = λ system p h lt. rw (lt-ltb system p lt);
+  only-above = λ system p e. ltb-true system p (sym (or-false (ltb system p)) ∙ e);
+  rises = λ system p q e lt. or-true (ltb system q);
+}
 
 -- ---- in the table
 

@@ -1,12 +1,11 @@
 -- What is proved of the lock scheduler: its refusals change nothing, its waits are short, it is idle only behind sleepers, and its job numbers say
 -- whose call it is.
-use mathlib.Core.Path.{_≡_, refl, sym, ap, _∙_}
+use mathlib.Core.Path.{_≡_, refl, ap, _∙_}
 use mathlib.Core.Logic.{_↔_}
-use mathlib.Core.Bool.{true, or-true, or-false}
+use mathlib.Core.Bool.{true}
 use Prim.Native.Nat.{ℕ, suc, _%_, _<_}
 use native.Mathlib.Omega.{arith}
-use lib.Dec.{ltb}
-use borrow.Author.Tests.{ltb-true, eq-eqb}
+use borrow.Author.Tests.{eq-eqb}
 use Rattle.searches.specs.Searches.{Place, nowhere, at, only}
 use Rattle.searches.proofs.Testing.{impossible}
 use Rattle.protocol.specs.Tasks.{Table, priority, setting}
@@ -21,7 +20,7 @@ use Rattle.protocol.specs.Trace.{Event, released, after, event}
 use Rattle.protocol.specs.ShortWaits.{Counts, always, whileAbove, pastSleepers, ShortWaits}
 use Rattle.protocol.specs.Idling.{Idle}
 use Rattle.protocol.specs.Numbers.{Entitled, releasesOf, releases, Wraps}
-use Rattle.protocol.proofs.Runner.{runs}
+use Rattle.protocol.proofs.Runner.{lawful, runs}
 use Rattle.protocol.proofs.Lows.{held-once, past-above}
 use Rattle.protocol.proofs.Fitness.{sound-fit}
 use Rattle.protocol.proofs.Granted.{Caller, Granted, granted}
@@ -29,7 +28,7 @@ use Rattle.protocol.proofs.Runs.{Run, inv, calls-run}
 use Rattle.protocol.proofs.Exclusion.{one-section-open, finds-free, finds-unheld}
 use Rattle.protocol.proofs.Meetings.{Fair, only-older, one-to-a-wait, above-setting}
 use Rattle.protocol.proofs.Counting.{one-more-than-sleeps}
-use Rattle.protocol.proofs.Idling.{above-passes, idle-state, someone-sleeps}
+use Rattle.protocol.proofs.Idling.{idle-state, someone-sleeps}
 use Rattle.protocol.proofs.Numbering.{next-counts, wraps}
 
 -- ---- refusals
@@ -57,14 +56,6 @@ run-short-waits F G = record {
   one-to-a-wait = one-to-a-wait F G;
   one-more-than-sleeps = one-more-than-sleeps F G;
   above-setting = above-setting F G;
-}
-
--- the rule in force is lawful
-pub lawful : Lawful inForce
-lawful = record {
-  above = λ system p h lt. above-passes system p h lt;
-  only-above = λ system p e. ltb-true system p (sym (or-false (ltb system p)) ∙ e);
-  rises = λ system p q e lt. or-true (ltb system q);
 }
 
 module _ (E : Rule) (L : Lawful E) (T : Table) (A : Accepted T) (calls : ℕ → Call) where

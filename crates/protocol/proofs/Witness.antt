@@ -28,8 +28,8 @@ eventK = event inForce (table 0) (inTurn callsK)
 
 -- the table is an accepted one
 pub table-accepted : Accepted (table 0)
-unfolding all
-table-accepted = accepted-so (table 0) (omega arith) refl refl proper
+unfolding fit named all
+table-accepted = accepted-so (table 0) refl refl proper
   where
     proper : (i : ℕ) → table 0 .task i .uses 0 ≡ 0
     proper zero = refl

@@ -16,7 +16,8 @@ use Rattle.protocol.specs.ShortWaits.{always, whileAbove, pastSleepers, ShortWa
 use Rattle.protocol.specs.Idling.{Idle}
 use Rattle.protocol.specs.Numbers.{Entitled, releases, Wraps}
 use Rattle.protocol.proofs.Idling.{someone-sleeps}
-use Rattle.protocol.proofs.Theorems.{refused-keeps, lawful, short-waits, short-waits-past, short-waits-always, never-unfit, idle-only, answered-idle}
+use Rattle.protocol.proofs.Runner.{lawful}
+use Rattle.protocol.proofs.Theorems.{refused-keeps, short-waits, short-waits-past, short-waits-always, never-unfit, idle-only, answered-idle}
 use Rattle.protocol.proofs.Theorems.{entitled, number-again}
 use Rattle.table.specs.declared.Shape.{Shape}
 use Rattle.table.proofs.Accepted.{well-formed}

@@ -1,19 +1,16 @@
 -- What the scans answer is the machine's, on the whole view.
 use mathlib.Core.Path.{_≡_, refl, sym, _∙_}
 use mathlib.Core.List.{[]}
-use mathlib.Core.Bool.{Bool, true, false, not, _&&_}
-use Prim.Native.Nat.{ℕ, zero, suc, _≤_, _<_}
+use mathlib.Core.Bool.{Bool, true, false, not}
+use Prim.Native.Nat.{ℕ, _≤_, _<_}
 use native.Mathlib.Omega.{arith}
-use native.Mathlib.Decide.{ℕ-discrete}
-use lib.Dec.{ltb, leb}
-use lib.ListN.{length}
-use borrow.Author.Tests.{ltb-true, leb-true, lt-ltb, le-ltb, not-false}
+use borrow.Author.Tests.{lt-ltb, le-ltb, not-false}
 use Rattle.protocol.specs.Tasks.{priority, setting}
-use Rattle.searches.specs.Searches.{Place, nowhere, at, all}
+use Rattle.searches.specs.Searches.{Place, nowhere, at}
 use Rattle.protocol.specs.Running.{ceiling, systemPriority, systemCeiling, inForce, running}
-use Rattle.protocol.specs.Fit.{named, fit}
+use Rattle.protocol.specs.Fit.{fit}
 use Rattle.protocol.specs.Step.{numberAt}
-use Rattle.searches.proofs.Testing.{and-true}
+use Rattle.protocol.proofs.Fitness.{fit-says}
 use Rattle.arrays.specs.View.{tasksBy, entriesBy, sectionsBy, opening, lastOpen, ranked, users, jobs, placeOf}
 use Rattle.arrays.proofs.Opened.{sections-length, fit-tested, last-ceiling}
 use Rattle.scheduler.specs.declared.Scheduler.{Scheduler}
@@ -58,16 +55,6 @@ module _ (s : Scheduler) where
 
 -- ---- a fit state
 
--- what all pass each passes
-all-at : (test : ℕ → Bool) (n i : ℕ) → all test n ≡ true → i < n → test i ≡ true
-unfolding all
-all-at test zero i e lt = absurd (omega arith)
-all-at test (suc k) i e lt = let w = and-true (all test k) (test k) e in go w (ℕ-discrete i k) (all-at test k i (w .0))
-  where
-    go : (all test k ≡ true) × (test k ≡ true) → Dec (i ≡ k) → (i < k → test i ≡ true) → test i ≡ true
-    go w (yes q) more = rw q (w .1)
-    go w (no ne) more = more (omega arith)
-
 -- A fit state has counts within the arrays, and settings below their priorities.
 pub record Fit (s : Scheduler) : Type 0 where
   pub few : s .tasks ≤ 32
@@ -77,18 +64,12 @@ pub record Fit (s : Scheduler) : Type 0 where
 
 -- so says the machine's test
 pub fit-known : (s : Scheduler) → fit (tableOf s) (stateOf s) ≡ true → Fit s
-unfolding fit
 fit-known s e =
-    let T = tableOf s in
-    let open-sections = stateOf s .sections in
-    let under : ℕ → Bool = λ i. ltb (setting T i) (priority T i) in
-    let a = and-true (leb (s .tasks) 32) (all under (s .tasks) && (leb (length open-sections) 16 && named T open-sections)) e in
-    let b = and-true (all under (s .tasks)) (leb (length open-sections) 16 && named T open-sections) (a .1) in
-    let c = and-true (leb (length open-sections) 16) (named T open-sections) (b .1) in
+    let w = fit-says (tableOf s) (stateOf s) e in
     record {
-      few = leb-true (s .tasks) 32 (a .0);
-      room = omega (arith, leb-true (length open-sections) 16 (c .0), sections-length (s .places) (s .resources) (s .sections));
-      below = λ i lt. ltb-true (setting T i) (priority T i) (all-at under (s .tasks) i (b .0) lt);
+      few = w .0;
+      room = omega (arith, w .2, sections-length (s .places) (s .resources) (s .sections));
+      below = w .1;
       fits = e;
     }
 
