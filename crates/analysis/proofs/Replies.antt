@@ -3,11 +3,12 @@
 use Prim.Native.Nat.{ℕ, _-_, _≤_, _<_}
 use mathlib.Core.Path.{_≡_, refl, sym, ap, _∙_}
 use mathlib.Core.Logic.{_↔_}
-use mathlib.Core.Bool.{Bool, true, false}
+use mathlib.Core.Bool.{Bool, true, false, cond}
 use mathlib.Core.List.{List}
 use native.Mathlib.Decide.{decLe}
 use native.Mathlib.Omega.{arith}
 use lib.ListN.{getD, replicate, List·getD-append}
+use lib.Dec.{ltb}
 use borrow.Author.Tests.{lt-ltb}
 use Rattle.searches.proofs.Testing.{impossible}
 use Rattle.searches.proofs.Searching.{all-each, all-fails, all-true}
@@ -16,20 +17,21 @@ use Rattle.table.specs.declared.Shape.{Shape}
 use Rattle.table.specs.declared.Reading.{Reading}
 use Rattle.table.specs.declared.Reading.the-variants.{Accepted, Refused}
 use Rattle.table.specs.Reading.{readTable}
+use Rattle.table.specs.WellFormed.{taskOf}
 use Rattle.table.proofs.Accepted.{well-formed}
 use Rattle.rounds.specs.Answer as theory
-use Rattle.rounds.specs.Answer.{value}
+use Rattle.rounds.specs.Answer.{Right, value}
 use Rattle.rounds.specs.System.{deadline}
 use Rattle.rounds.specs.Rounds.{analysis, answer}
 use Rattle.rounds.specs.AllowanceLaws.{within-allowed, beyond-refused}
 use Rattle.equations.specs.View.{ownSettings}
 use Rattle.analysis.specs.declared.Analysis.{Analysis}
-use Rattle.analysis.specs.declared.TaskAnswer.the-variants.{Conditional}
+use Rattle.analysis.specs.declared.TaskAnswer.the-variants.{Bound, Conditional, Nothing}
 use Rattle.analysis.specs.Rounding.{bounded}
 use Rattle.analysis.specs.Analysing.{ownSystem, refusedBy, verdictOf, doneBy, analysedAs, analysed}
 use Rattle.analysis.specs.Answering.{told, answerAt, toldOf}
-use Rattle.analysis.proofs.Table.{table-size}
-use Rattle.analysis.proofs.Right.{largest-vector, each-value}
+use Rattle.analysis.proofs.Table.{table-size, deadline-is}
+use Rattle.analysis.proofs.Right.{largest-vector, each-right, each-value}
 
 -- the total of an accepted table
 abbrev pub totalOf : List ℕ → Shape → ℕ
@@ -160,3 +162,59 @@ module _ (s : List ℕ) (h : Shape) (e : readTable s ≡ Accepted h) (allowance 
             → toldOf (verdictOf s h) (answer (ownSystem s h) i) ≡ Conditional t
         back true v f w = absurd (verdict-yes .0 (verdict-is ∙ v) (w .0) (w .1) (w .2))
         back false v f w = rw (v, f)
+
+-- a verdict of yes is given only within the allowance
+pub verdict-enough : (s : List ℕ) (h : Shape) → readTable s ≡ Accepted h → (allowance : ℕ) → analysed s allowance .verdict ≡ true
+    → totalOf s h ≤ allowance
+verdict-enough s h e allowance q = go (decLe (totalOf s h) allowance)
+  where
+    go : Dec (totalOf s h ≤ allowance) → totalOf s h ≤ allowance
+    go (yes l) = l
+    go (no l) =
+        let spent = ap (λ (r : Reading). analysedAs r s allowance .verdict) e ∙ ap (λ (a : Analysis). a .verdict) (spent-as s h allowance (omega arith)) in
+        absurd (impossible (cc (q, spent)))
+
+module _ (s : List ℕ) (h : Shape) (e : readTable s ≡ Accepted h) (allowance : ℕ) (yes-all : analysed s allowance .verdict ≡ true) where
+  -- then nothing is refused, and the answers are those of all tasks
+  pub yes-unrefused : (analysed s allowance .refusal .number ≡ 0) × (analysed s allowance .tasks ≡ h .tasks)
+  yes-unrefused =
+      let w = whole s h e allowance (verdict-enough s h e allowance yes-all) in
+      (ap (λ (a : Analysis). a .refusal .number) w, ap (λ (a : Analysis). a .tasks) w)
+
+  -- and each task is told a bound, from 1 to its deadline
+  pub yes-told : (i : ℕ) → i < h .tasks → (t : ℕ) × (answerAt (analysed s allowance) i ≡ Bound t) × (1 ≤ t) × (t ≤ taskOf s i .deadline)
+  yes-told i p =
+      let l = verdict-enough s h e allowance yes-all in
+      let v = sym (verdict-is s h e allowance l) ∙ yes-all in
+      go (answer (ownSystem s h) i) (all-each (λ j. bounded (answer (ownSystem s h) j)) (h .tasks) v i p)
+      (each-told s h e allowance l i p ∙ ap (λ b. toldOf b (answer (ownSystem s h) i)) v) (each-right s h e i p)
+    where
+      go : (a : theory.Answer) → bounded a ≡ true → answerAt (analysed s allowance) i ≡ toldOf true a
+          → Right (ownSystem s h .side i (analysis (ownSystem s h) .vector)) (deadline (ownSystem s h) i) a
+          → (t : ℕ) × (answerAt (analysed s allowance) i ≡ Bound t) × (1 ≤ t) × (t ≤ taskOf s i .deadline)
+      go (theory.bound t) b q r =
+          (t, q, r .solution .positive, rw (deadline-is s h (ownSettings s (h .tasks)) (well-formed s h e) i p) (r .solution .within))
+      go theory.none b q r = absurd (impossible cc)
+
+-- a bound is told only beside a verdict of yes
+bound-yes : (a : Analysis) (i t : ℕ) → answerAt a i ≡ Bound t → a .verdict ≡ true
+bound-yes a i t e = go (ltb i 32) (a .verdict) (getD (a .bounds) i false) (getD (a .values) i 0) e
+  where
+    go : (inside verdict mark : Bool) (x : ℕ) → cond inside (told verdict mark x) Nothing ≡ Bound t → verdict ≡ true
+    go true true mark x q = refl
+    go true false true x q = absurd (impossible cc)
+    go true false false x q = absurd (impossible cc)
+    go false verdict mark x q = absurd (impossible cc)
+
+-- so only where every task has one, and then it is the task's answer
+pub bound-says : (s : List ℕ) (h : Shape) → readTable s ≡ Accepted h → (allowance i t : ℕ) → i < h .tasks
+    → answerAt (analysed s allowance) i ≡ Bound t → (verdictOf s h ≡ true) × (answer (ownSystem s h) i ≡ theory.bound t)
+bound-says s h e allowance i t p q =
+    let l = verdict-enough s h e allowance (bound-yes (analysed s allowance) i t q) in
+    go (verdictOf s h) (answer (ownSystem s h) i) (sym (each-told s h e allowance l i p) ∙ q)
+  where
+    go : (verdict : Bool) (a : theory.Answer) → toldOf verdict a ≡ Bound t → (verdict ≡ true) × (a ≡ theory.bound t)
+    go true (theory.bound u) f = (refl, let same : u ≡ t = cc in ap theory.bound same)
+    go false (theory.bound u) f = absurd (impossible cc)
+    go true theory.none f = absurd (impossible cc)
+    go false theory.none f = absurd (impossible cc)

@@ -18,12 +18,12 @@ use Rattle.protocol.proofs.Meetings.{Fair, one-to-a-wait}
 use Rattle.protocol.proofs.Pigeons.{pigeons}
 
 -- an earlier state of a job
-has-until : {ev : ℕ → Event} {p a j k : ℕ} → Has ev p a k → a < j → j ≤ k → Has ev p a j
+pub has-until : {ev : ℕ → Event} {p a j k : ℕ} → Has ev p a k → a < j → j ≤ k → Has ev p a j
 has-until w lt le = record { began = w .began; made = lt; going = λ x lo hi e. w .going x lo (omega arith) e }
 
 module _ {E : Rule} {T : ℕ → Table} {S : ℕ → State} {ev : ℕ → Event} (G : Run E T S ev) where
   -- until its job ends a task has that job
-  has-job : {p a : ℕ} (k : ℕ) → Has ev p a k → Stands (T k) (S k) p Unfinished
+  pub has-job : {p a : ℕ} (k : ℕ) → Has ev p a k → Stands (T k) (S k) p Unfinished
   has-job zero w = absurd (omega (arith, w .made))
   has-job {p} {a} (suc k) w = go (ℕ-discrete a k) (next G k) (has-job k)
     where
@@ -40,8 +40,8 @@ module _ {E : Rule} {T : ℕ → Table} {S : ℕ → State} {ev : ℕ → Event}
       go (no ne) (by-change c z) more = carried c p Unfinished (λ e u. u) (more (has-until w (omega (arith, w .made)) (omega arith)))
 
   -- and its sleeps do not fall
-  sleeps-rise : {p a : ℕ} (j k i x : ℕ) → Has ev p a k → a < j → j ≤ k → i < T j .size → priority (T j) i ≡ p → x < T k .size → priority (T k) x ≡ p
-      → S j .entry i .sleeps ≤ S k .entry x .sleeps
+  pub sleeps-rise : {p a : ℕ} (j k i x : ℕ) → Has ev p a k → a < j → j ≤ k → i < T j .size → priority (T j) i ≡ p
+      → x < T k .size → priority (T k) x ≡ p → S j .entry i .sleeps ≤ S k .entry x .sleeps
   sleeps-rise j zero i x w lo hi li ei lx ex = absurd (omega arith)
   sleeps-rise {p} {a} j (suc k) i x w lo hi li ei lx ex = go (decLe j k) (next G k) (sleeps-rise j k i)
     where

@@ -83,7 +83,7 @@ module _ {T : Table} (A : Accepted T) (zeros : (i : ℕ) → i < T .size → set
     by-same : (p n : ℕ) (more : ℕ → Ruling) → byRunning inForce T (s .entry) p n more ≡ byRunning aboveSystem T (s .entry) p n more
     by-same p n more = ap (λ x. found 13 x (λ i. demand 13 (numbered T (s .entry) p n i) (more i))) (running-same (s .entry))
 
-    ruling-same : (c : Call) → ruling inForce T s c ≡ ruling aboveSystem T s c
+    pub ruling-same : (c : Call) → ruling inForce T s c ≡ ruling aboveSystem T s c
     ruling-same (release p) = refl
     ruling-same (resume p n) = refl
     ruling-same (lock p n r) = ap (demand 26 (fit T s)) (by-same p n (locking T (s .entry) (ltb (length (s .sections)) 16) r))
@@ -102,7 +102,7 @@ module _ {T : Table} (A : Accepted T) (zeros : (i : ℕ) → i < T .size → set
         (ap (λ x. start x u) (running-same (u .entry)))
         ∙ ap (λ x. record { refusal = 0; running = numberAt T (t .entry) x; state = t }) (running-same (t .entry))
 
-    step-same : (c : Call) → step inForce T s c ≡ step aboveSystem T s c
+    pub step-same : (c : Call) → step inForce T s c ≡ step aboveSystem T s c
     unfolding step
     step-same c = ap (answer inForce T s c) (ruling-same c) ∙ answer-same c (ruling aboveSystem T s c)
 

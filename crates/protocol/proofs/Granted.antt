@@ -30,9 +30,10 @@ pub record Caller (E : Rule) (T : Table) (s : State) (p n i : ℕ) : Type 0 wher
 abbrev pub Granted : Rule → Table → State → Call → ℕ → Type 0
 Granted E T s (release p) i = (priority T i ≡ p) × (i < T .size) × (s .entry i .status ≡ none)
 Granted E T s (resume p n) i = Named T s p n i × (i < T .size) × (s .entry i .status ≡ asleep)
-Granted E T s (lock p n r) i = Caller E T s p n i × (s .entry i .held ≡ 0) × (0 < T .task i .uses r) × (length (s .sections) < 16)
+Granted E T s (lock p n r) i =
+    Caller E T s p n i × (s .entry i .held ≡ 0) × (0 < T .task i .uses r) × (length (s .sections) < 16) × (s .entry i .opened r < T .task i .uses r)
 Granted E T s (unlock p n r) i = Caller E T s p n i × (s .entry i .held ≡ r) × (s .entry i .held ≡ 0 → ⊥)
-Granted E T s (suspend p n) i = Caller E T s p n i × (s .entry i .held ≡ 0)
+Granted E T s (suspend p n) i = Caller E T s p n i × (s .entry i .held ≡ 0) × (s .entry i .sleeps < T .task i .most)
 Granted E T s (complete p n) i = Caller E T s p n i × (s .entry i .held ≡ 0)
 
 -- a demand that grants was met
@@ -89,7 +90,7 @@ module _ (E : Rule) (T : Table) (s : State) where
       let c = and-true (not (holds (s .entry (w .0)))) _ (b .0) in
       let d = demand-met 16 (ltb (s .entry (w .0) .opened r) (T .task (w .0) .uses r)) _ i (b .1) in
       let same : w .0 ≡ i = cc in
-      rw (← same) (w .1, is-free (w .0) (c .0), ltb-true _ _ (a .0), ltb-true _ _ (c .1))
+      rw (← same) (w .1, is-free (w .0) (c .0), ltb-true _ _ (a .0), ltb-true _ _ (c .1), ltb-true _ _ (d .0))
   passed (unlock p n r) i e =
       let w = by-running p n i _ e in
       let a = demand-met 17 (holds (s .entry (w .0)) && eqb (s .entry (w .0) .held) r) _ i (w .2) in
@@ -101,7 +102,7 @@ module _ (E : Rule) (T : Table) (s : State) where
       let a = demand-met 18 (not (holds (s .entry (w .0)))) _ i (w .2) in
       let b = demand-met 19 (ltb (s .entry (w .0) .sleeps) (T .task (w .0) .most)) _ i (a .1) in
       let same : w .0 ≡ i = cc in
-      rw (← same) (w .1, is-free (w .0) (a .0))
+      rw (← same) (w .1, is-free (w .0) (a .0), ltb-true _ _ (b .0))
   passed (complete p n) i e =
       let w = by-running p n i _ e in
       let a = demand-met 18 (not (holds (s .entry (w .0)))) _ i (w .2) in

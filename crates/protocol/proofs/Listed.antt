@@ -7,7 +7,7 @@ use Prim.Native.Nat.{ℕ, zero, suc, _<_}
 use lib.Dec.{ltb, eqb}
 use borrow.Author.Tests.{lt-ltb, eqb-true, eq-eqb}
 use Rattle.searches.specs.Searches.{at, all}
-use Rattle.searches.proofs.Testing.{impossible, true-and}
+use Rattle.searches.proofs.Testing.{impossible, and-true, true-and}
 use Rattle.searches.proofs.Searching.{all-each}
 use Rattle.protocol.specs.Tasks.{Table, priority}
 use Rattle.protocol.specs.State.{State, fresh}
@@ -77,13 +77,43 @@ object (slept p) = 0
 object (ended p) = 0
 
 -- whether two events are the same
-abbrev is : Event → Event → Bool
+abbrev pub is : Event → Event → Bool
 is e f = eqb (kind e) (kind f) && (eqb (subject e) (subject f) && eqb (object e) (object f))
 
 -- an event is itself
-is-itself : (e : Event) → is e e ≡ true
+pub is-itself : (e : Event) → is e e ≡ true
 is-itself e =
     true-and (eq-eqb (kind e) (kind e) refl) (true-and (eq-eqb (subject e) (subject e) refl) (eq-eqb (object e) (object e) refl))
+
+-- the event of a kind that names a priority and a resource
+abbrev naming : ℕ → ℕ → ℕ → Event
+naming zero p r = nothing
+naming (suc zero) p r = released p
+naming (suc (suc zero)) p r = resumed p
+naming (suc (suc (suc zero))) p r = opened p r
+naming (suc (suc (suc (suc zero)))) p r = closed p r
+naming (suc (suc (suc (suc (suc zero))))) p r = slept p
+naming (suc (suc (suc (suc (suc (suc k)))))) p r = ended p
+
+-- an event is that of its kind that names what it names
+named-so : (e : Event) → naming (kind e) (subject e) (object e) ≡ e
+named-so nothing = refl
+named-so (released p) = refl
+named-so (resumed p) = refl
+named-so (opened p r) = refl
+named-so (closed p r) = refl
+named-so (slept p) = refl
+named-so (ended p) = refl
+
+-- events that pass for the same are so
+pub is-so : (e f : Event) → is e f ≡ true → e ≡ f
+is-so e f t =
+    let a = and-true (eqb (kind e) (kind f)) (eqb (subject e) (subject f) && eqb (object e) (object f)) t in
+    let b = and-true (eqb (subject e) (subject f)) (eqb (object e) (object f)) (a .1) in
+    let k = eqb-true (kind e) (kind f) (a .0) in
+    let p = eqb-true (subject e) (subject f) (b .0) in
+    let r = eqb-true (object e) (object f) (b .1) in
+    sym (named-so e) ∙ rw (k, p, r) (named-so f)
 
 module _ (ev : ℕ → Event) where
   -- whether none of the calls after o and below k brings an event about

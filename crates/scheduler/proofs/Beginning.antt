@@ -1,10 +1,9 @@
 -- A scheduler that is set up on an accepted table is a fresh one, and its tasks are lawful.
-use mathlib.Core.Path.{_≡_, refl, ap, fun-ext, _∙_}
+use mathlib.Core.Path.{_≡_, refl, sym, ap, fun-ext, _∙_}
 use mathlib.Core.Bool.{Bool, true, false}
 use mathlib.Core.List.{List}
 use Prim.Native.Nat.{ℕ, zero, suc, _+_, _*_, _<_}
 use native.Mathlib.Omega.{arith}
-use native.Mathlib.Decide.{decLt}
 use lib.Dec.{ltb}
 use lib.ListN.{getD, replicate, length-replicate}
 use borrow.Author.Tests.{lt-ltb}
@@ -14,11 +13,12 @@ use Rattle.protocol.specs.Accepted.{Accepted}
 use Rattle.table.specs.declared.Shape.{Shape}
 use Rattle.table.specs.declared.Reading.the-variants as reading
 use Rattle.table.specs.Reading.{readTable}
-use Rattle.table.specs.WellFormed.{taskOf, WellFormed}
+use Rattle.table.specs.WellFormed.{WellFormed}
 use Rattle.searches.proofs.Indexed.{length-every, every-at, same-at}
 use Rattle.arrays.specs.View.{statusOf, countOf, sectionsBy}
 use Rattle.scheduler.specs.View.{Sized, tableOf, entryOf, stateOf}
 use Rattle.scheduler.specs.Fresh.{column, freshOf, setUpBy, setUp}
+use Rattle.scheduler.proofs.Loading.{one-task}
 
 -- ---- no job yet
 
@@ -66,7 +66,7 @@ module _ (s : List ℕ) (h : Shape) where
 
   module _ (W : WellFormed s h) where
     -- a byte of a task's record
-    byte-of : (field i : ℕ) → i < h .tasks → getD (column s (h .tasks) field) i 0 ≡ getD s (20 * i + field) 0
+    pub byte-of : (field i : ℕ) → i < h .tasks → getD (column s (h .tasks) field) i 0 ≡ getD s (20 * i + field) 0
     byte-of field i lt =
         every-at (λ k. only (ltb k (h .tasks)) (getD s (20 * k + field) 0)) 32 i 0 (omega (arith, W .tasks-most)) ∙ rw (lt-ltb i (h .tasks) lt)
 
@@ -74,15 +74,10 @@ module _ (s : List ℕ) (h : Shape) where
     pub fresh-accepted : Accepted (tableOf (freshOf s h))
     fresh-accepted = record {
       few = W .tasks-most;
-      unique = λ i j li lj e. unique i j li lj (omega (arith, byte-of 1 i li, byte-of 1 j lj, e)) (decLt i j) (decLt j i);
+      unique = λ i j li lj e. one-task s h W i j li lj (sym (byte-of 1 i li) ∙ e ∙ byte-of 1 j lj);
       below = λ i lt. omega (arith, byte-of 1 i lt, byte-of 2 i lt, W .task-range i lt .setting);
       proper = λ i. refl;
     }
-      where
-        unique : (i j : ℕ) → i < h .tasks → j < h .tasks → taskOf s i .priority ≡ taskOf s j .priority → Dec (i < j) → Dec (j < i) → i ≡ j
-        unique i j li lj e (yes l) d = let f = W .falling i j l lj in absurd (omega arith)
-        unique i j li lj e (no l) (yes m) = let f = W .falling j i m li in absurd (omega arith)
-        unique i j li lj e (no l) (no m) = omega arith
 
   -- setting up on an accepted table
   pub set-up-fresh : readTable s ≡ reading.Accepted h → setUp s .scheduler ≡ freshOf s h

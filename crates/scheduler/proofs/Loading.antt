@@ -66,6 +66,15 @@ times-start s n start = zeros 512 _ (λ k. only-zero (ltb (k / 16) n))
     only-zero true = refl
     only-zero false = refl
 
+-- tasks of one priority are one
+pub one-task : (s : List ℕ) (h : Shape) → WellFormed s h → (a b : ℕ) → a < h .tasks → b < h .tasks → taskOf s a .priority ≡ taskOf s b .priority → a ≡ b
+one-task s h W a b la lb e = go (decLt a b) (decLt b a)
+  where
+    go : Dec (a < b) → Dec (b < a) → a ≡ b
+    go (yes l) d = let f = W .falling a b l lb in absurd (omega arith)
+    go (no l) (yes m) = let f = W .falling b a m la in absurd (omega arith)
+    go (no l) (no m) = omega arith
+
 module _ (s : List ℕ) (h : Shape) (W : WellFormed s h) (j : ℕ) (lt : j < h .uses) where
   -- the place of the use's task
   abbrev user : ℕ
@@ -79,17 +88,8 @@ module _ (s : List ℕ) (h : Shape) (W : WellFormed s h) (j : ℕ) (lt : j < h .
   slot-inside : user * 16 + (resource - 1) < 512
   slot-inside = omega (arith, W .owned j lt, W .tasks-most, W .use-range j lt .resource, W .use-range j lt .resource-most)
 
-  -- tasks of one priority are one
-  one-task : (a b : ℕ) → a < h .tasks → b < h .tasks → taskOf s a .priority ≡ taskOf s b .priority → a ≡ b
-  one-task a b la lb e = go (decLt a b) (decLt b a)
-    where
-      go : Dec (a < b) → Dec (b < a) → a ≡ b
-      go (yes l) d = let f = W .falling a b l lb in absurd (omega arith)
-      go (no l) (yes m) = let f = W .falling b a m la in absurd (omega arith)
-      go (no l) (no m) = omega arith
-
   -- its task has the priority that it names
-  user-has : taskOf s user .priority ≡ useOf s (h .«uses_at») j .priority
+  pub user-has : taskOf s user .priority ≡ useOf s (h .«uses_at») j .priority
   user-has = place-has (h .tasks) s 0 (useOf s (h .«uses_at») j .priority) (omega (arith, W .owned j lt))
 
   -- by one use more
@@ -121,7 +121,7 @@ module _ (s : List ℕ) (h : Shape) (W : WellFormed s h) (j : ℕ) (lt : j < h .
           → names (useOf s (h .«uses_at») j) (taskOf s (k / 16) .priority) (k % 16 + 1) ≡ b → {y : ℕ} → y ≡ cond b (useOf s (h .«uses_at») j .times) y
       kept k ne l true t =
           let w = and-true (eqb (useOf s (h .«uses_at») j .priority) (taskOf s (k / 16) .priority)) _ t in
-          let a = one-task user (k / 16) (W .owned j lt) l (user-has ∙ eqb-true _ _ (w .0)) in
+          let a = one-task s h W user (k / 16) (W .owned j lt) l (user-has ∙ eqb-true _ _ (w .0)) in
           let b = eqb-true resource (k % 16 + 1) (w .1) in
           absurd (ne (omega arith))
       kept k ne l false t = refl

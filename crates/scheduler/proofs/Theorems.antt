@@ -20,13 +20,15 @@ use Rattle.protocol.proofs.Runner.{lawful}
 use Rattle.protocol.proofs.Theorems.{refused-keeps, short-waits, short-waits-past, short-waits-always, never-unfit, idle-only, answered-idle}
 use Rattle.protocol.proofs.Theorems.{entitled, number-again}
 use Rattle.table.specs.declared.Shape.{Shape}
+use Rattle.table.specs.declared.Reading.the-variants as reading
+use Rattle.table.specs.Reading.{readTable}
 use Rattle.table.proofs.Accepted.{well-formed}
 use Rattle.scheduler.specs.declared.Scheduler.{Scheduler}
 use Rattle.scheduler.specs.declared.Running.{Running}
 use Rattle.scheduler.specs.declared.Reply.{Reply}
 use Rattle.scheduler.specs.View.{Sized, tableOf, stateOf}
 use Rattle.scheduler.specs.Replies.{runningOf, written, replied}
-use Rattle.scheduler.specs.Fresh.{freshOf}
+use Rattle.scheduler.specs.Fresh.{freshOf, setUp}
 use Rattle.scheduler.specs.Driven.{Driven, eventIf, told}
 use Rattle.scheduler.proofs.Written.{beside-self, written-again}
 use Rattle.scheduler.proofs.Following.{replied-follows, replied-sized}
@@ -44,6 +46,17 @@ refused-same {s} Z c n = go (ruling inForce (tableOf s) (stateOf s) c) refl
     go (grant i) e = absurd (n (ap (λ q. machine.answer inForce (tableOf s) (stateOf s) c q .refusal) e))
 
 -- ---- calls one after the other
+
+-- the scheduler after k calls on accepted bytes, each handed what the last one answered
+unfoldable pub driven : List ℕ → (ℕ → Call) → ℕ → Scheduler
+driven bytes calls zero = setUp bytes .scheduler
+driven bytes calls (suc k) = replied (driven bytes calls k) (calls k) .state
+
+-- so any calls can be made
+pub drives : (bytes : List ℕ) (h : Shape) → readTable bytes ≡ reading.Accepted h → (calls : ℕ → Call)
+    → Driven bytes h calls (driven bytes calls) (λ k. replied (driven bytes calls k) (calls k))
+unfolding driven
+drives bytes h e calls = record { reads = e; starts = refl; replies = λ k. refl; goes-on = λ k. refl }
 
 module _ {bytes : List ℕ} {h : Shape} {calls : ℕ → Call} {S : ℕ → Scheduler} {R : ℕ → Reply} (D : Driven bytes h calls S R) where
   -- the table of the bytes
@@ -73,7 +86,7 @@ module _ {bytes : List ℕ} {h : Shape} {calls : ℕ → Call} {S : ℕ → Sche
   table-is (suc k) = ap tableOf (next-is k) ∙ table-is k
 
   -- its state is the machine's
-  state-is : (k : ℕ) → stateOf (S k) ≡ after inForce T calls k
+  pub state-is : (k : ℕ) → stateOf (S k) ≡ after inForce T calls k
   unfolding after
   state-is zero = ap stateOf first-is ∙ fresh-view bytes h
   state-is (suc k) =
@@ -82,13 +95,27 @@ module _ {bytes : List ℕ} {h : Shape} {calls : ℕ → Call} {S : ℕ → Sche
       ∙ ap (λ U. machine.step inForce U (stateOf (S k)) (calls k) .state) (table-is k)
       ∙ ap (λ s. machine.step inForce T s (calls k) .state) (state-is k)
 
-  -- and its reply tells what the machine's call brings about
-  event-is : (k : ℕ) → told (R k) (calls k) ≡ event inForce T calls k
+  -- its reply tells what the machine's call brings about
+  pub event-is : (k : ℕ) → told (R k) (calls k) ≡ event inForce T calls k
   event-is k =
       ap (λ r. told r (calls k)) (D .replies k)
       ∙ ap (λ U. eventIf (eqb (machine.step inForce U (stateOf (S k)) (calls k) .refusal) 0) (calls k)) (table-is k)
       ∙ ap (λ s. eventIf (eqb (machine.step inForce T s (calls k) .refusal) 0) (calls k)) (state-is k)
       ∙ event-told inForce T (after inForce T calls k) (calls k)
+
+  -- and names the job that the machine's names
+  pub running-is : (k : ℕ) → R k .running ≡ runningOf (machine.step inForce T (after inForce T calls k) (calls k) .running)
+  running-is k =
+      ap (λ r. r .running) (D .replies k)
+      ∙ ap (λ U. runningOf (machine.step inForce U (stateOf (S k)) (calls k) .running)) (table-is k)
+      ∙ ap (λ s. runningOf (machine.step inForce T s (calls k) .running)) (state-is k)
+
+  -- its refusal is the machine's, too
+  pub refusal-is : (k : ℕ) → R k .refusal ≡ machine.step inForce T (after inForce T calls k) (calls k) .refusal
+  refusal-is k =
+      ap (λ r. r .refusal) (D .replies k)
+      ∙ ap (λ U. machine.step inForce U (stateOf (S k)) (calls k) .refusal) (table-is k)
+      ∙ ap (λ s. machine.step inForce T s (calls k) .refusal) (state-is k)
 
   -- what holds of the machine's states and events holds of the scheduler's
   seen : (Q : (ℕ → Table) → (ℕ → State) → (ℕ → Event) → Type 0) → Q (λ k. T) (after inForce T calls) (event inForce T calls)
@@ -117,14 +144,8 @@ module _ {bytes : List ℕ} {h : Shape} {calls : ℕ → Call} {S : ℕ → Sche
 
   -- a reply of idle is the machine's
   idle-told : (k : ℕ) → R k .running ≡ Running.Idle → machine.step inForce T (after inForce T calls k) (calls k) .running ≡ machine.idle
-  idle-told k e = go (machine.step inForce T (after inForce T calls k) (calls k) .running) (sym same ∙ e)
+  idle-told k e = go (machine.step inForce T (after inForce T calls k) (calls k) .running) (sym (running-is k) ∙ e)
     where
-      same : R k .running ≡ runningOf (machine.step inForce T (after inForce T calls k) (calls k) .running)
-      same =
-          ap (λ r. r .running) (D .replies k)
-          ∙ ap (λ U. runningOf (machine.step inForce U (stateOf (S k)) (calls k) .running)) (table-is k)
-          ∙ ap (λ s. runningOf (machine.step inForce T s (calls k) .running)) (state-is k)
-
       go : (r : machine.Running) → runningOf r ≡ Running.Idle → r ≡ machine.idle
       go machine.Running.idle q = refl
       go (machine.Running.job p n) q = absurd (impossible cc)

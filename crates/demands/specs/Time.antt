@@ -1,0 +1,97 @@
+-- In time: where the bounds program prints `verdict yes` for a table, and the jobs keep to that table, no job is ever later than the bound in its task's
+-- line, and so none misses its deadline. What it is to keep to a table, and to be over in time, is in `timing`'s Statement: releases of a task are T
+-- apart; a job whose work of C ticks has ended is completed at that instant; it sleeps through S ticks at most, and stays in a section for L at most.
+-- That it makes no more than X sleeps and opens no section more than N times, the scheduler sees to.
+use Prim.Native.Nat.{ℕ, suc, _+_, _≤_, _<_}
+use mathlib.Core.Path.{_≡_, ap}
+use mathlib.Core.Bool.{true}
+use mathlib.Core.List.{List, [], _++_}
+use native.Mathlib.Omega.{arith}
+use Rattle.table.specs.declared.Shape.{Shape}
+use Rattle.table.specs.declared.Reading.the-variants.{Accepted}
+use Rattle.table.specs.Reading.{readTable}
+use Rattle.table.specs.WellFormed.{taskOf}
+use Rattle.analysis.specs.declared.TaskAnswer.the-variants.{Bound}
+use Rattle.analysis.specs.Analysing.{analysed}
+use Rattle.analysis.specs.Answering.{answerAt}
+use Rattle.analysis.proofs.Replies as replies
+use Rattle.words.specs.Text.{text, labelled, newline}
+use Rattle.lines.specs.Lines.{verdictText, taskLine, taskLines, printed}
+use Rattle.protocol.specs.Checks.{Call}
+use Rattle.protocol.specs.Trace.{released}
+use Rattle.protocol.proofs.Listed.{inTurn}
+use Rattle.protocol.proofs.Former.{aboveSystem}
+use Rattle.scheduler.specs.declared.Scheduler.{Scheduler}
+use Rattle.scheduler.specs.declared.Reply.{Reply}
+use Rattle.scheduler.specs.View.{tableOf}
+use Rattle.scheduler.specs.Replies.{replied}
+use Rattle.scheduler.specs.Fresh.{freshOf}
+use Rattle.scheduler.specs.Driven.{Driven}
+use Rattle.scheduler.proofs.Theorems.{driven}
+use Rattle.timing.specs.Statement.{Clock, At, seen, seenUnder, Obeys, OverWithin, InTime, AtTheInstant, ReleasedAgain}
+use Rattle.timing.proofs.Instants.{first-rises}
+use Rattle.timing.proofs.Theorems as timing
+use Rattle.timing.proofs.Witness as witness
+use Rattle.timing.proofs.Late as late
+
+module _ {bytes : List ℕ} {h : Shape} {calls : ℕ → Call} {S : ℕ → Scheduler} {R : ℕ → Reply} (D : Driven bytes h calls S R) where
+  -- ---- what is printed
+
+  module _ (allowance : ℕ) (yes-all : analysed bytes allowance .verdict ≡ true) where
+    -- where the verdict is yes, it is printed with a line for each task,
+    pub printed-whole : printed bytes allowance
+        ≡ verdictText true (analysed bytes allowance .evaluations) ++ (newline ++ taskLines bytes (analysed bytes allowance) (h .tasks))
+    printed-whole =
+        let w = replies.yes-unrefused bytes h (D .reads) allowance yes-all in
+        rw (w .0, w .1, yes-all)
+
+    -- and each task is told a bound, from 1 to its deadline,
+    pub each-bound : (i : ℕ) → i < h .tasks → (v : ℕ) × (answerAt (analysed bytes allowance) i ≡ Bound v) × (1 ≤ v) × (v ≤ taskOf bytes i .deadline)
+    each-bound = replies.yes-told bytes h (D .reads) allowance yes-all
+
+    -- which stands in its line: `P bound V deadline D`
+    pub line-says : (i v : ℕ) → answerAt (analysed bytes allowance) i ≡ Bound v
+        → taskLine (taskOf bytes i) (answerAt (analysed bytes allowance) i)
+        ≡ labelled [] (taskOf bytes i .priority) ++ (labelled (text " bound ") v ++ (labelled (text " deadline ") (taskOf bytes i .deadline) ++ newline))
+    line-says i v told = ap (taskLine (taskOf bytes i)) told
+
+  -- ---- no job is late
+
+  module _ (K : Clock) (O : Obeys bytes h K (seen calls S R)) (allowance : ℕ) where
+    -- every job of every task that is told a bound is over within it
+    pub no-job-late : InTime bytes h allowance K (seen calls S R)
+    no-job-late = timing.calls-in-time D K O allowance
+
+    -- so where the verdict is yes no job of any task misses its deadline
+    pub no-deadline-missed : analysed bytes allowance .verdict ≡ true → (i a r : ℕ) → i < h .tasks
+        → seen calls S R .event a ≡ released (taskOf bytes i .priority) → At K a r
+        → OverWithin K (seen calls S R) (taskOf bytes i .priority) a r (taskOf bytes i .deadline)
+    no-deadline-missed yes-all i a r lt e p =
+        let w = each-bound allowance yes-all i lt in
+        let over = no-job-late i a r (w .0) lt (w .1) e p in
+        (over .0, over .1, omega (arith, over .2, first-rises K (suc (r + w .0)) (suc (r + taskOf bytes i .deadline)) (omega (arith, w .3))), over .3)
+
+    -- a release T or more after the task's last one is not refused for a job that is still there, unless at the very instant, the bound being T, the
+    -- call that ends the job comes after it
+    pub next-release : (i a b t u v : ℕ) → i < h .tasks → answerAt (analysed bytes allowance) i ≡ Bound v
+        → ReleasedAgain calls K (seen calls S R) (taskOf bytes i .priority) a b t u (taskOf bytes i .period) → R b .refusal ≡ 12
+        → AtTheInstant K (seen calls S R) (taskOf bytes i .priority) b t u v (taskOf bytes i .period)
+    next-release = timing.calls-released-again D K O allowance
+
+-- ---- not empty, and not of every rule
+
+-- of this table the tasks are told 5 and 6, and in these calls, that keep to it, with sections and a sleep, the jobs are there until just then
+pub there-until-then : witness.Reached
+    (seen (inTurn witness.calls) (driven witness.bytes (inTurn witness.calls))
+    (λ k. replied (driven witness.bytes (inTurn witness.calls) k) (inTurn witness.calls k)))
+there-until-then = witness.calls-reached
+
+-- under the former rule it was not so: of this table the verdict is yes, these calls keep to it, and a job misses its deadline
+pub former-late : late.Late
+former-late = late.former-late
+
+-- save where all settings are 0
+pub former-in-time : (bytes : List ℕ) (h : Shape) → readTable bytes ≡ Accepted h → ((i : ℕ) → i < h .tasks → taskOf bytes i .setting ≡ 0)
+    → (calls : ℕ → Call) (K : Clock) → Obeys bytes h K (seenUnder aboveSystem (tableOf (freshOf bytes h)) calls)
+    → (allowance : ℕ) → InTime bytes h allowance K (seenUnder aboveSystem (tableOf (freshOf bytes h)) calls)
+former-in-time = timing.former-in-time

@@ -1,0 +1,239 @@
+-- Calls that come to an end: tests that the checker computes, and calls that pass them keep to the table.
+use Prim.Native.Nat.{ℕ, zero, suc, _+_, _-_, _≤_, _<_}
+use mathlib.Core.Path.{_≡_, refl, ap, _∙_}
+use mathlib.Core.Bool.{Bool, true, false, not, _&&_, _||_, or-true}
+use mathlib.Core.List.{List}
+use native.Mathlib.Omega.{arith}
+use native.Mathlib.Nat.{le-refl, add-suc}
+use native.Mathlib.Decide.{decLe, decLt, ℕ-discrete}
+use lib.Dec.{ltb, leb}
+use lib.ListN.{getD, length, List·getD-eq-default}
+use borrow.Author.Tests.{ltb-true, leb-true, not-true}
+use Rattle.searches.specs.Searches.{all, only}
+use Rattle.searches.specs.Indexed.{sumTo}
+use Rattle.searches.proofs.Testing.{impossible}
+use Rattle.searches.proofs.Searching.{all-each}
+use Rattle.searches.proofs.Sums.{sumTo-none, sumTo-flat, sumTo-grows}
+use Rattle.table.specs.declared.Shape.{Shape}
+use Rattle.table.specs.declared.Task.{Task}
+use Rattle.table.specs.declared.Use.{Use}
+use Rattle.table.specs.WellFormed.{taskOf, useOf}
+use Rattle.protocol.specs.Trace.{Event, released, opened, closed, ended, Has}
+use Rattle.protocol.proofs.Listed.{is, is-itself, is-so}
+use Rattle.timing.specs.Statement.{Clock, At, callsBy, Seen, executes, rests, count, Obeys, OverWithin}
+use Rattle.timing.proofs.Instants.{first-rises}
+
+-- ---- instants
+
+-- so many calls at the instants 0, 1 and so on, and none after them
+abbrev pub clockOf : List ℕ → Clock
+clockOf counts = record {
+  first = sumTo (λ t. getD counts t 0);
+  from-none = sumTo-none (λ t. getD counts t 0) 0 refl;
+  goes-on = λ t. sumTo-grows (λ t. getD counts t 0) t (suc t) (omega arith);
+}
+
+-- ---- from one event to another
+
+-- The call o brings the event e about, and none after it and below k brings f about: so it is of a job or a section that is there.
+record Spell (ev : ℕ → Event) (e f : Event) (o k : ℕ) : Type 0 where
+  began : ev o ≡ e
+  made : o < k
+  kept : (j : ℕ) → o < j → j < k → ev j ≡ f → ⊥
+
+-- so it was before
+was-so : {ev : ℕ → Event} {e f : Event} {o j k : ℕ} → Spell ev e f o k → o < j → j ≤ k → Spell ev e f o j
+was-so w lt le = record { began = w .began; made = lt; kept = λ x lo hi. w .kept x lo (omega arith) }
+
+module _ (ev : ℕ → Event) (e f : Event) where
+  -- whether after k calls there was an event e, and no f since
+  unfoldable pub lasts : ℕ → Bool
+  lasts zero = false
+  lasts (suc k) = is (ev k) e || (not (is (ev k) f) && lasts k)
+
+  -- the test passes where it is so
+  lasts-so : {o : ℕ} (k : ℕ) → Spell ev e f o k → lasts k ≡ true
+  unfolding lasts
+  lasts-so zero w = absurd (omega (arith, w .made))
+  lasts-so {o} (suc k) w = go (ℕ-discrete o k) (is (ev k) f) refl (lasts-so k)
+    where
+      go : Dec (o ≡ k) → (b : Bool) → is (ev k) f ≡ b → (Spell ev e f o k → lasts k ≡ true) → is (ev k) e || (not b && lasts k) ≡ true
+      go (yes q) b t more = rw (← q, w .began, is-itself e)
+      go (no ne) true t more = absurd (w .kept k (omega (arith, w .made)) (omega arith) (is-so (ev k) f t))
+      go (no ne) false t more = rw (more (was-so w (omega (arith, w .made)) (omega arith))) (or-true (is (ev k) e))
+
+module _ (g : ℕ → Bool) (c : ℕ → ℕ) where
+  -- the sum of c over the ticks before t, since g last failed
+  unfoldable pub since : ℕ → ℕ
+  since zero = 0
+  since (suc t) = only (g t) (since t + c t)
+
+  -- it is no less than over ticks in which g doesn't fail
+  since-so : (u n : ℕ) → ((x : ℕ) → x < n → g (u + x) ≡ true) → count c u n ≤ since (u + n)
+  unfolding sumTo since
+  since-so u zero h = omega arith
+  since-so u (suc n) h = rw (add-suc u n, h n (omega arith)) (omega (arith, since-so u n (λ x lt. h x (omega arith))))
+
+-- ---- the tests
+
+module _ (s : List ℕ) (h : Shape) (counts : List ℕ) (X : Seen) where
+  -- when the calls are made
+  abbrev clock : Clock
+  clock = clockOf counts
+
+  -- from this instant on nothing is called
+  abbrev end : ℕ
+  end = length counts
+
+  -- whether by the tick t there was an event e, and no f since
+  abbrev lasting : Event → Event → ℕ → Bool
+  lasting e f t = lasts (X .event) e f (callsBy clock t)
+
+  -- whether no two calls bring the event e about
+  abbrev once : Event → Bool
+  once e = all (λ b. all (λ a. not (is (X .event a) e && is (X .event b) e)) b) (callsBy clock end)
+
+  -- whether each event e is followed by an f
+  abbrev over : Event → Event → Bool
+  over e f = not (lasting e f end)
+
+  -- whether, in each tick between an event e and the next f, c is below m over the ticks before it
+  abbrev below : Event → Event → (ℕ → ℕ) → ℕ → Bool
+  below e f c m = all (λ t. not (lasting e f t) || ltb (since (lasting e f) c t) m) end
+
+  -- whether c is at most m over all ticks between an event e and the next f
+  abbrev within : Event → Event → (ℕ → ℕ) → ℕ → Bool
+  within e f c m = all (λ t. leb (since (lasting e f) c t) m) (suc end)
+
+  -- a task's figures, its release and the end of its job
+  abbrev task : ℕ → Task
+  task i = taskOf s i
+
+  abbrev comes : ℕ → Event
+  comes i = released (task i .priority)
+
+  abbrev goes : ℕ → Event
+  goes i = ended (task i .priority)
+
+  -- a use's figures, its lock and its unlock
+  abbrev usage : ℕ → Use
+  usage k = useOf s (h .«uses_at») k
+
+  abbrev locks : ℕ → Event
+  locks k = opened (usage k .priority) (usage k .resource)
+
+  abbrev unlocks : ℕ → Event
+  unlocks k = closed (usage k .priority) (usage k .resource)
+
+  -- whether the job of a task has executed in less than C ticks before its last, and whether it sleeps through S at most
+  abbrev worksLess : ℕ → Bool
+  worksLess i = below (comes i) (goes i) (executes clock X (task i .priority)) (task i .run)
+
+  abbrev sleepsWithin : ℕ → Bool
+  sleepsWithin i = within (comes i) (goes i) (rests clock X i) (task i .sleep)
+
+  -- whether in each section of a use its job executes in L ticks at most
+  abbrev holdsWithin : ℕ → Bool
+  holdsWithin k = within (locks k) (unlocks k) (executes clock X (usage k .priority)) (usage k .length)
+
+  -- Each task is released once at most, its job ends, and each section is closed; and they keep to their figures.
+  pub record Passes : Type 0 where
+    pub come-once : all (λ i. once (comes i)) (h .tasks) ≡ true
+    pub all-end : all (λ i. over (comes i) (goes i)) (h .tasks) ≡ true
+    pub all-close : all (λ k. over (locks k) (unlocks k)) (h .uses) ≡ true
+    pub working : all worksLess (h .tasks) ≡ true
+    pub sleeping : all sleepsWithin (h .tasks) ≡ true
+    pub holding : all holdsWithin (h .uses) ≡ true
+
+  -- ---- that they suffice
+
+  -- after the end no call is made
+  still : (t : ℕ) → end ≤ t → clock .first t ≡ clock .first end
+  still t le =
+      let e : t ≡ end + (t - end) = omega arith in
+      ap (clock .first) e ∙ sumTo-flat (λ t. getD counts t 0) end (t - end) 0 (λ y lo hi. List·getD-eq-default counts 0 lo) ∙ omega arith
+
+  -- what passed as once doesn't happen again
+  once-so : (e : Event) (a b u : ℕ) → once e ≡ true → a < b → X .event a ≡ e → X .event b ≡ e → At clock b u → ⊥
+  once-so e a b u passed lt first again made =
+      let row = all-each (λ b. all (λ a. not (is (X .event a) e && is (X .event b) e)) b) (callsBy clock end) passed b (by-end (decLe u end)) in
+      let both = all-each (λ a. not (is (X .event a) e && is (X .event b) e)) b row a lt in
+      let no : false ≡ true = rw (first, again, is-itself e) at both in
+      impossible cc
+    where
+      by-end : Dec (u ≤ end) → b < callsBy clock end
+      by-end (yes le) = omega (arith, made .till, first-rises clock (suc u) (suc end) (omega arith))
+      by-end (no gt) = omega (arith, made .till, still (suc u) (omega arith), still (suc end) (omega arith))
+
+  module _ (e f : Event) (closes : over e f ≡ true) {o : ℕ} where
+    -- nothing lasts to the end
+    ends : (t : ℕ) → end ≤ t → Spell (X .event) e f o (clock .first t) → ⊥
+    ends t le w =
+        let lasts-on : lasting e f end ≡ true = rw (still (suc end) (omega arith), ← still t le) (lasts-so (X .event) e f (clock .first t) w) in
+        impossible (cc (lasts-on, not-true (lasting e f end) closes))
+
+    -- the ticks counted are among those since the event
+    counted : (c : ℕ → ℕ) (u n k : ℕ) → clock .first (u + n) ≤ k → o < callsBy clock u → Spell (X .event) e f o k
+        → count c u n ≤ since (lasting e f) c (u + n)
+    counted c u n k le lo w =
+        since-so (lasting e f) c u n (λ x lt.
+        lasts-so (X .event) e f (callsBy clock (u + x))
+        (was-so w (omega (arith, lo, first-rises clock (suc u) (suc (u + x)) (omega arith)))
+        (omega (arith, le, first-rises clock (suc (u + x)) (u + n) (omega arith)))))
+
+    -- what passed as below m is so
+    below-so : (c : ℕ → ℕ) (m u n : ℕ) → below e f c m ≡ true → o < callsBy clock u → Spell (X .event) e f o (callsBy clock (u + n))
+        → count c u n < m
+    below-so c m u n passed lo w = go (decLt (u + n) end)
+      where
+        go : Dec (u + n < end) → count c u n < m
+        go (yes lt) =
+            let t = all-each (λ t. not (lasting e f t) || ltb (since (lasting e f) c t) m) end passed (u + n) lt in
+            let less : ltb (since (lasting e f) c (u + n)) m ≡ true = rw (lasts-so (X .event) e f (callsBy clock (u + n)) w) at t in
+            omega (
+              arith,
+              ltb-true (since (lasting e f) c (u + n)) m less,
+              counted c u n (callsBy clock (u + n)) (first-rises clock (u + n) (suc (u + n)) (omega arith)) lo w,
+            )
+        go (no ge) = absurd (ends (suc (u + n)) (omega arith) w)
+
+    -- and so is what passed as within m
+    within-so : (c : ℕ → ℕ) (m u n : ℕ) → within e f c m ≡ true → o < callsBy clock u → Spell (X .event) e f o (clock .first (u + n))
+        → count c u n ≤ m
+    within-so c m u n passed lo w = go (decLe (u + n) end)
+      where
+        go : Dec (u + n ≤ end) → count c u n ≤ m
+        go (yes le) =
+            let t = all-each (λ t. leb (since (lasting e f) c t) m) (suc end) passed (u + n) (omega arith) in
+            omega (arith, leb-true (since (lasting e f) c (u + n)) m t, counted c u n (clock .first (u + n)) (le-refl (clock .first (u + n))) lo w)
+        go (no gt) = absurd (ends (u + n) (omega arith) w)
+
+  -- calls that pass keep to the table
+  pub keeps : Passes → Obeys s h clock X
+  keeps P = record {
+    apart = λ i a b t u lt l ea eb ka kb.
+        absurd (once-so (comes i) a b u (all-each (λ i. once (comes i)) (h .tasks) (P .come-once) i lt) l ea eb kb);
+    works = λ i a r n lt came w.
+        below-so (comes i) (goes i) (job-ends i lt) (executes clock X (task i .priority)) (task i .run) r n
+        (all-each worksLess (h .tasks) (P .working) i lt) (came .till) (record { began = w .began; made = w .made; kept = w .going });
+    sleeps = λ i a r n lt came w.
+        within-so (comes i) (goes i) (job-ends i lt) (rests clock X i) (task i .sleep) r n
+        (all-each sleepsWithin (h .tasks) (P .sleeping) i lt) (came .till) (record { began = w .began; made = w .made; kept = w .going });
+    holds = λ k o r n lt came w.
+        let closes = all-each (λ k. over (locks k) (unlocks k)) (h .uses) (P .all-close) k lt in
+        within-so (locks k) (unlocks k) closes (executes clock X (usage k .priority)) (usage k .length) r n
+        (all-each holdsWithin (h .uses) (P .holding) k lt) (came .till) (record { began = w .began; made = w .made; kept = w .kept });
+  }
+    where
+      job-ends : (i : ℕ) → i < h .tasks → over (comes i) (goes i) ≡ true
+      job-ends = all-each (λ i. over (comes i) (goes i)) (h .tasks) (P .all-end)
+
+-- ---- jobs that are still there
+
+-- a job that is there in the tick t isn't over by the instant t
+pub not-over : (K : Clock) (X : Seen) (p a r v t : ℕ) → Has (X .event) p a (callsBy K t) → OverWithin K X p a r v → t < r + v
+not-over K X p a r v t w (j, lo, hi, e) = go (decLt t (r + v))
+  where
+    go : Dec (t < r + v) → t < r + v
+    go (yes lt) = lt
+    go (no ge) = absurd (w .going j lo (omega (arith, hi, first-rises K (suc (r + v)) (suc t) (omega arith))) e)

@@ -1,0 +1,33 @@
+-- Calls along the instants of a clock.
+use Prim.Native.Nat.{ℕ, zero, suc, _≤_, _<_}
+use mathlib.Core.Path.{_≡_, ap}
+use native.Mathlib.Omega.{arith}
+use native.Mathlib.Decide.{decLe, decLt}
+use Rattle.timing.specs.Statement.{Clock, At}
+
+module _ (K : Clock) where
+  -- later instants have no fewer calls before them
+  pub first-rises : (t u : ℕ) → t ≤ u → K .first t ≤ K .first u
+  first-rises t zero le = let e : t ≡ 0 = omega arith in omega (arith, ap (K .first) e)
+  first-rises t (suc u) le = go (decLe t u) (first-rises t u)
+    where
+      go : Dec (t ≤ u) → (t ≤ u → K .first t ≤ K .first u) → K .first t ≤ K .first (suc u)
+      go (yes p) more = omega (arith, more p, K .goes-on u)
+      go (no p) more = let e : t ≡ suc u = omega arith in omega (arith, ap (K .first) e)
+
+  -- a call made before the instant n is of an earlier one
+  pub instant : (k n : ℕ) → k < K .first n → (t : ℕ) × (t < n) × At K k t
+  instant k zero lt = absurd (omega (arith, K .from-none))
+  instant k (suc n) lt = go (decLt k (K .first n)) (instant k n)
+    where
+      go : Dec (k < K .first n) → (k < K .first n → (t : ℕ) × (t < n) × At K k t) → (t : ℕ) × (t < suc n) × At K k t
+      go (yes p) more = let w = more p in (w .0, omega (arith, w .1), w .2)
+      go (no p) more = (n, omega arith, record { from = omega arith; till = lt })
+
+  -- calls in order are at instants in order
+  pub in-order : (j k t u : ℕ) → j ≤ k → At K j t → At K k u → t ≤ u
+  in-order j k t u le p q = go (decLt u t)
+    where
+      go : Dec (u < t) → t ≤ u
+      go (yes h) = absurd (omega (arith, first-rises (suc u) t h, p .from, q .till))
+      go (no h) = omega arith

@@ -1,0 +1,257 @@
+-- What is proved: every job is over in time, and so a release a period after the last one finds its task's job gone.
+use Prim.Native.Nat.{ℕ, zero, suc, _+_, _<_}
+use mathlib.Core.Path.{_≡_, refl, sym, ap, subst, fun-ext, _∙_}
+use mathlib.Core.Logic.{_⊎_, inl, inr}
+use mathlib.Core.Bool.{true}
+use mathlib.Core.List.{List}
+use native.Mathlib.Omega.{arith}
+use native.Mathlib.Decide.{decLt, ℕ-discrete}
+use Rattle.searches.proofs.Searching.{all-each}
+use Rattle.searches.proofs.Indexed.{every-at}
+use Rattle.searches.proofs.Testing.{impossible}
+use Rattle.table.specs.declared.Shape.{Shape}
+use Rattle.table.specs.declared.Reading.the-variants as reading
+use Rattle.table.specs.Reading.{readTable}
+use Rattle.table.specs.WellFormed.{taskOf}
+use Rattle.table.proofs.Accepted.{well-formed}
+use Rattle.rounds.specs.Answer as theory
+use Rattle.rounds.specs.Answer.{Right, Solution}
+use Rattle.rounds.specs.System.{deadline}
+use Rattle.rounds.specs.Vector.{at}
+use Rattle.rounds.specs.Rounds.{analysis, answer}
+use Rattle.analysis.specs.declared.TaskAnswer.the-variants.{Bound}
+use Rattle.analysis.specs.Rounding.{bounded}
+use Rattle.analysis.specs.Analysing.{ownSystem, verdictOf, analysed}
+use Rattle.analysis.specs.Answering.{answerAt}
+use Rattle.analysis.proofs.Right.{each-right, each-value}
+use Rattle.analysis.proofs.Replies.{bound-says}
+use Rattle.protocol.specs.Tasks.{Table, priority, setting}
+use Rattle.protocol.specs.State.{State, isAsleep}
+use Rattle.protocol.specs.Running.{inForce}
+use Rattle.protocol.specs.Checks.{Call, ruling}
+use Rattle.protocol.specs.Step as machine
+use Rattle.protocol.specs.Step.{step}
+use Rattle.protocol.specs.Trace.{Event, released, ended, outcome, after}
+use Rattle.protocol.proofs.Former.{aboveSystem, ruling-same, step-same}
+use Rattle.scheduler.specs.declared.Scheduler.{Scheduler}
+use Rattle.scheduler.specs.declared.Reply.{Reply}
+use Rattle.scheduler.specs.View.{tableOf}
+use Rattle.scheduler.specs.Replies.{runningOf}
+use Rattle.scheduler.specs.Fresh.{freshOf}
+use Rattle.scheduler.specs.Driven.{Driven}
+use Rattle.scheduler.proofs.Beginning.{byte-of, fresh-accepted}
+use Rattle.scheduler.proofs.Theorems.{state-is, event-is, running-is, refusal-is}
+use Rattle.timing.specs.Statement.{Clock, At, seen, priorityIn, priorityOf, seenUnder, Obeys, OverWithin, InTime, AtTheInstant, ReleasedAgain}
+use Rattle.timing.proofs.Instants.{first-rises, instant}
+use Rattle.timing.proofs.Jobs.{is-ended, before-release}
+use Rattle.timing.proofs.Figures.{own-figures}
+use Rattle.timing.proofs.Given.{Given, ev, tick, value, There, sight, value-room}
+use Rattle.timing.proofs.Pace.{Before}
+use Rattle.timing.proofs.Start.{begin}
+use Rattle.timing.proofs.Window.{Window}
+use Rattle.timing.proofs.Charges.{no-window}
+use Rattle.timing.proofs.Blocking.{low-bounded}
+use Rattle.timing.proofs.Releases.{refused-at}
+
+-- ---- no job is late
+
+module _ (G : Given) where
+  -- of no instant is a job the first to be late
+  none-late : (m : ℕ) → Before G m
+  none-late zero i a r lt e h l x = absurd (omega arith)
+  none-late (suc m) i a r lt e h l x = go (none-late m) (ℕ-discrete (r + value G i) m)
+    where
+      go : Before G m → Dec (r + value G i ≡ m) → ⊥
+      go more (no ne) = more i a r lt e h (omega arith) x
+      go more (yes q) =
+          let start = begin G i lt a (before-release (G .accepted) (G .calls) a i lt e) in
+          let w = instant (G .clock) (start .index) (suc r) (omega (arith, start .early, h .till)) in
+          let D : Window G m i a r (w .0) =
+          record {
+            before = more;
+            inside = lt;
+            release = e;
+            when = h;
+            due = q;
+            late = subst (λ y. There G i a (tick G y)) q x;
+            start = start;
+            from = w .2;
+          } in
+          no-window D (low-bounded D)
+
+-- among the first k calls some ended p's job since the call a, or none did
+since : (event : ℕ → Event) (p a k : ℕ)
+    → ((j : ℕ) × (a < j) × (j < k) × (event j ≡ ended p)) ⊎ ((j : ℕ) → a < j → j < k → event j ≡ ended p → ⊥)
+since event p a zero = inr (λ j lo hi e. omega arith)
+since event p a (suc k) = go (since event p a k) (decLt a k) (is-ended (event k) p)
+  where
+    go : ((j : ℕ) × (a < j) × (j < k) × (event j ≡ ended p)) ⊎ ((j : ℕ) → a < j → j < k → event j ≡ ended p → ⊥) → Dec (a < k) → Dec (event k ≡ ended p)
+        → ((j : ℕ) × (a < j) × (j < suc k) × (event j ≡ ended p)) ⊎ ((j : ℕ) → a < j → j < suc k → event j ≡ ended p → ⊥)
+    go (inl w) c d = inl (w .0, w .1, omega (arith, w .2), w .3)
+    go (inr f) (yes l) (yes e) = inl (k, l, omega arith, e)
+    go (inr f) (yes l) (no n) = inr (λ j lo hi e. by j lo hi e (ℕ-discrete j k))
+      where
+        by : (j : ℕ) → a < j → j < suc k → event j ≡ ended p → Dec (j ≡ k) → ⊥
+        by j lo hi e (yes q) = n (subst (λ x. event x ≡ ended p) q e)
+        by j lo hi e (no q) = f j lo (omega arith) e
+    go (inr f) (no l) d = inr (λ j lo hi e. absurd (omega arith))
+
+-- so each is over in time
+pub over-in-time : (G : Given) (i a r : ℕ) → i < G .table .size → ev G a ≡ released (priority (G .table) i) → At (G .clock) a r
+    → OverWithin (G .clock) (sight G) (priority (G .table) i) a r (value G i)
+over-in-time G i a r lt e h = go (since (ev G) (priority (G .table) i) a (tick G (r + value G i)))
+  where
+    made : a < tick G (r + value G i)
+    made = omega (arith, h .till, first-rises (G .clock) (suc r) (suc (r + value G i)) (omega arith))
+
+    go : OverWithin (G .clock) (sight G) (priority (G .table) i) a r (value G i)
+        ⊎ ((j : ℕ) → a < j → j < tick G (r + value G i) → ev G j ≡ ended (priority (G .table) i) → ⊥)
+        → OverWithin (G .clock) (sight G) (priority (G .table) i) a r (value G i)
+    go (inl w) = w
+    go (inr f) =
+        absurd (none-late G (suc (r + value G i)) i a r lt e h (omega arith) (record { began = e; made = made; going = f }))
+
+-- ---- from the bytes of a table
+
+module _ (s : List ℕ) (h : Shape) (accepted : readTable s ≡ reading.Accepted h) where
+  -- the scheduler's table
+  abbrev T : Table
+  T = tableOf (freshOf s h)
+
+  -- where every task has a bound, the final values solve the equations
+  solved : verdictOf s h ≡ true → (i : ℕ) → i < h .tasks
+      → Solution (ownSystem s h .side i (analysis (ownSystem s h) .vector)) (taskOf s i .deadline) (at (analysis (ownSystem s h) .vector) i)
+  solved yes-all i lt =
+      go (answer (ownSystem s h) i) (all-each (λ j. bounded (answer (ownSystem s h) j)) (h .tasks) yes-all i lt)
+      (each-right s h accepted i lt) (each-value s h accepted i lt)
+    where
+      v : List ℕ
+      v = analysis (ownSystem s h) .vector
+
+      go : (x : theory.Answer) → bounded x ≡ true → Right (ownSystem s h .side i v) (deadline (ownSystem s h) i) x
+          → at v i ≡ theory.value (deadline (ownSystem s h) i) x → Solution (ownSystem s h .side i v) (taskOf s i .deadline) (at v i)
+      go (theory.bound t) b r e =
+          subst (λ d. Solution (ownSystem s h .side i v) d (at v i)) (every-at (λ j. taskOf s j .deadline) (h .tasks) i 0 lt)
+          (subst (Solution (ownSystem s h .side i v) (deadline (ownSystem s h) i)) (sym e) (r .solution))
+      go theory.none b r e = absurd (impossible cc)
+
+  module _ (calls : ℕ → Call) (K : Clock) (O : Obeys s h K (seenUnder inForce T calls)) where
+    -- all that the argument rests on
+    abbrev given : verdictOf s h ≡ true → Given
+    given yes-all =
+        let W = well-formed s h accepted in
+        record {
+          bytes = s;
+          shape = h;
+          well = W;
+          table = T;
+          accepted = fresh-accepted s h W;
+          figures = own-figures s h W;
+          calls = calls;
+          clock = K;
+          obeys = O;
+          values = analysis (ownSystem s h) .vector;
+          solved = solved yes-all;
+        }
+
+    -- every job is over within the bound that its task is told
+    pub in-time : (allowance : ℕ) → InTime s h allowance K (seenUnder inForce T calls)
+    in-time allowance i a r v lt told e p =
+        let w = bound-says s h accepted allowance i v lt told in
+        let G = given (w .0) in
+        let same = G .figures .priority-is i lt in
+        let is : value G i ≡ v = each-value s h accepted i lt ∙ ap (theory.value (deadline (ownSystem s h) i)) (w .1) in
+        subst (λ q. OverWithin K (seenUnder inForce T calls) q a r v) same
+        (subst (OverWithin K (seenUnder inForce T calls) (priority T i) a r) is
+        (over-in-time G i a r lt (e ∙ sym (ap released same)) p))
+
+    -- and a release T or more after the last one is refused with 12 only where the job's end is called later at that instant
+    pub released-again : (allowance i a b t u v : ℕ) → i < h .tasks → answerAt (analysed s allowance) i ≡ Bound v
+        → ReleasedAgain calls K (seenUnder inForce T calls) (taskOf s i .priority) a b t u (taskOf s i .period)
+        → step inForce T (after inForce T calls b) (calls b) .refusal ≡ 12
+        → AtTheInstant K (seenUnder inForce T calls) (taskOf s i .priority) b t u v (taskOf s i .period)
+    released-again allowance i a b t u v lt told again refused =
+        let W = well-formed s h accepted in
+        let same = own-figures s h W .priority-is i lt in
+        let bound = bound-says s h accepted allowance i v lt told in
+        let G = given (bound .0) in
+        let is : value G i ≡ v = each-value s h accepted i lt ∙ ap (theory.value (deadline (ownSystem s h) i)) (bound .1) in
+        subst (λ q. AtTheInstant K (seenUnder inForce T calls) q b t u v (taskOf s i .period)) same
+        (refused-at (fresh-accepted s h W) calls K lt
+        (subst (λ q. ReleasedAgain calls K (seenUnder inForce T calls) q a b t u (taskOf s i .period)) (sym same) again) refused
+        (omega (arith, is, value-room G i lt .1))
+        (subst (λ q. OverWithin K (seenUnder inForce T calls) q a t v) (sym same) (in-time allowance i a t v lt told (again .last) (again .last-at))))
+
+-- ---- the scheduler's own calls
+
+-- a reply names the priority that the machine's does
+same-priority : (r : machine.Running) → priorityIn (runningOf r) ≡ priorityOf r
+same-priority machine.Running.idle = refl
+same-priority (machine.Running.job p n) = refl
+
+module _ {s : List ℕ} {h : Shape} {calls : ℕ → Call} {S : ℕ → Scheduler} {R : ℕ → Reply} (D : Driven s h calls S R) where
+  -- what is seen of them is what is seen of the machine's
+  pub seen-is : seen calls S R ≡ seenUnder inForce (tableOf (freshOf s h)) calls
+  seen-is =
+      let events = fun-ext (event-is D) in
+      let names = fun-ext (λ k. ap priorityIn (running-is D k) ∙ same-priority (step inForce T (after inForce T calls k) (calls k) .running)) in
+      let sleepers = fun-ext (λ k. fun-ext (λ i. ap (λ x. isAsleep (x .entry i .status)) (state-is D k))) in
+      λ x. record { event = events x; named = names x; asleep = sleepers x }
+    where
+      T : Table
+      T = tableOf (freshOf s h)
+
+  module _ (K : Clock) (O : Obeys s h K (seen calls S R)) where
+    -- every job is over within the bound that its task is told
+    pub calls-in-time : (allowance : ℕ) → InTime s h allowance K (seen calls S R)
+    calls-in-time allowance =
+        subst (InTime s h allowance K) (sym seen-is) (in-time s h (D .reads) calls K (subst (Obeys s h K) seen-is O) allowance)
+
+    -- and a release T or more after the last one is refused with 12 only where the job's end is called later at that instant
+    pub calls-released-again : (allowance i a b t u v : ℕ) → i < h .tasks → answerAt (analysed s allowance) i ≡ Bound v
+        → ReleasedAgain calls K (seen calls S R) (taskOf s i .priority) a b t u (taskOf s i .period) → R b .refusal ≡ 12
+        → AtTheInstant K (seen calls S R) (taskOf s i .priority) b t u v (taskOf s i .period)
+    calls-released-again allowance i a b t u v lt told again refused =
+        subst (λ X. AtTheInstant K X (taskOf s i .priority) b t u v (taskOf s i .period)) (sym seen-is)
+        (released-again s h (D .reads) calls K (subst (Obeys s h K) seen-is O) allowance i a b t u v lt told
+        (subst (λ X. ReleasedAgain calls K X (taskOf s i .priority) a b t u (taskOf s i .period)) seen-is again)
+        (sym (refusal-is D b) ∙ refused))
+
+-- ---- the former rule
+
+module _ (s : List ℕ) (h : Shape) (accepted : readTable s ≡ reading.Accepted h) (zeros : (i : ℕ) → i < h .tasks → taskOf s i .setting ≡ 0)
+    (calls : ℕ → Call)
+  where
+    -- the scheduler's table, and that its settings are 0
+    abbrev bare : Table
+    bare = tableOf (freshOf s h)
+
+    bare-zeros : (i : ℕ) → i < h .tasks → setting bare i ≡ 0
+    bare-zeros i lt = byte-of s h (well-formed s h accepted) 2 i lt ∙ zeros i lt
+
+    -- the states are the same
+    states-same : (k : ℕ) → after inForce bare calls k ≡ after aboveSystem bare calls k
+    unfolding after
+    states-same zero = refl
+    states-same (suc k) =
+        ap (λ (x : State). step inForce bare x (calls k) .state) (states-same k)
+        ∙ ap (λ r. r .state) (step-same (fresh-accepted s h (well-formed s h accepted)) bare-zeros (after aboveSystem bare calls k) (calls k))
+
+    -- and so is all that is seen
+    former-seen : seenUnder inForce bare calls ≡ seenUnder aboveSystem bare calls
+    former-seen =
+        let A = fresh-accepted s h (well-formed s h accepted) in
+        let events = fun-ext (λ k.
+        ap (λ x. outcome (ruling inForce bare x (calls k)) (calls k)) (states-same k)
+        ∙ ap (λ r. outcome r (calls k)) (ruling-same A bare-zeros (after aboveSystem bare calls k) (calls k))) in
+        let names = fun-ext (λ k.
+        ap (λ x. priorityOf (step inForce bare x (calls k) .running)) (states-same k)
+        ∙ ap (λ r. priorityOf (r .running)) (step-same A bare-zeros (after aboveSystem bare calls k) (calls k))) in
+        let sleepers = fun-ext (λ k. fun-ext (λ i. ap (λ x. isAsleep (x .entry i .status)) (states-same k))) in
+        λ x. record { event = events x; named = names x; asleep = sleepers x }
+
+    -- so where all settings are 0 every job was over in time under the former rule, too
+    pub former-in-time : (K : Clock) → Obeys s h K (seenUnder aboveSystem bare calls) → (allowance : ℕ)
+        → InTime s h allowance K (seenUnder aboveSystem bare calls)
+    former-in-time K O allowance =
+        subst (InTime s h allowance K) former-seen (in-time s h accepted calls K (subst (Obeys s h K) (sym former-seen) O) allowance)
