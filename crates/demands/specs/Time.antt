@@ -28,7 +28,7 @@ use Rattle.scheduler.specs.Replies.{replied}
 use Rattle.scheduler.specs.Fresh.{freshOf}
 use Rattle.scheduler.specs.Driven.{Driven}
 use Rattle.scheduler.proofs.Theorems.{driven}
-use Rattle.timing.specs.Statement.{Clock, At, seen, seenUnder, Obeys, OverWithin, InTime, AtTheInstant, ReleasedAgain}
+use Rattle.timing.specs.Statement.{Clock, At, seen, seenUnder, Obeys, OverWithin, InTime, ReleasedInTime}
 use Rattle.timing.proofs.Instants.{first-rises}
 use Rattle.timing.proofs.Theorems as timing
 use Rattle.timing.proofs.Witness as witness
@@ -73,10 +73,8 @@ module _ {bytes : List ℕ} {h : Shape} {calls : ℕ → Call} {S : ℕ → Sche
 
     -- a release T or more after the task's last one is not refused for a job that is still there, unless at the very instant, the bound being T, the
     -- call that ends the job comes after it
-    pub next-release : (i a b t u v : ℕ) → i < h .tasks → answerAt (analysed bytes allowance) i ≡ Bound v
-        → ReleasedAgain calls K (seen calls S R) (taskOf bytes i .priority) a b t u (taskOf bytes i .period) → R b .refusal ≡ 12
-        → AtTheInstant K (seen calls S R) (taskOf bytes i .priority) b t u v (taskOf bytes i .period)
-    next-release = timing.calls-released-again D K O allowance
+    pub next-release : ReleasedInTime bytes h allowance calls K (seen calls S R) (λ k. R k .refusal)
+    next-release = timing.calls-released-in-time D K O allowance
 
 -- ---- not empty, and not of every rule
 

@@ -34,7 +34,7 @@ use Rattle.timing.proofs.Pace.{Of, exec-live, rest-live, exec-stream, b
 use Rattle.timing.proofs.Window.{Window, lowTick, window-end}
 
 -- what a tick is to the higher task j: where that is an obstacle of i, its sleep is charged, too
-abbrev pub charge : Given → ℕ → ℕ → ℕ → ℕ
+abbrev charge : Given → ℕ → ℕ → ℕ → ℕ
 charge G i j t = cond (leb (task G i .priority) (view G .setting j)) (exec G j t + rest G j t) (exec G j t)
 
 -- all that a tick is charged to

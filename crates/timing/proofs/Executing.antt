@@ -19,29 +19,30 @@ use Rattle.protocol.specs.Trace.{after}
 use Rattle.protocol.proofs.Testing.{asleep-is}
 use Rattle.protocol.proofs.Runner.{lawful, Runs, runs}
 use Rattle.protocol.proofs.Theorems.{never-unfit}
-use Rattle.timing.specs.Statement.{Clock, callsBy, priorityOf, seenUnder, lastNamed, executes, rests}
+use Rattle.scheduler.specs.Replies.{runningOf}
+use Rattle.timing.specs.Statement.{Clock, callsBy, priorityIn, seenUnder, lastNamed, executes, rests}
 use Rattle.timing.proofs.Counts.{counted}
 
 -- the priority of the job that runs, 0 where none does
 abbrev runningPriority : Table → State → ℕ
-runningPriority T s = priorityOf (numberAt T (s .entry) (running inForce T (s .entry)))
+runningPriority T s = priorityIn (runningOf (numberAt T (s .entry) (running inForce T (s .entry))))
 
 -- nobody runs before the first call
 none-yet : (T : Table) → runningPriority T fresh ≡ 0
 none-yet T = go (running inForce T (fresh .entry)) refl
   where
-    go : (q : Place) → running inForce T (fresh .entry) ≡ q → priorityOf (numberAt T (fresh .entry) q) ≡ 0
+    go : (q : Place) → running inForce T (fresh .entry) ≡ q → priorityIn (runningOf (numberAt T (fresh .entry) q)) ≡ 0
     go nowhere e = refl
     go (at j) e = absurd (let R : Runs inForce T fresh j = runs e in impossible (cc (R .stands)))
 
 module _ {T : Table} (A : Accepted T) (calls : ℕ → Call) where
   -- a call's reply names the job that runs after it
-  replied : (k : ℕ) → priorityOf (step inForce T (after inForce T calls k) (calls k) .running) ≡ runningPriority T (after inForce T calls (suc k))
+  replied : (k : ℕ) → priorityIn (runningOf (step inForce T (after inForce T calls k) (calls k) .running)) ≡ runningPriority T (after inForce T calls (suc k))
   unfolding after step
   replied k = go (after inForce T calls k) (never-unfit inForce lawful T A calls k) (ruling inForce T (after inForce T calls k) (calls k))
     where
       go : (s : State) → fit T s ≡ true → (r : Ruling)
-          → priorityOf (answer inForce T s (calls k) r .running) ≡ runningPriority T (answer inForce T s (calls k) r .state)
+          → priorityIn (runningOf (answer inForce T s (calls k) r .running)) ≡ runningPriority T (answer inForce T s (calls k) r .state)
       go s f (refuse n) = rw f
       go s f (grant i) = refl
 
@@ -68,7 +69,7 @@ module _ {T : Table} (A : Accepted T) (calls : ℕ → Call) (K : Clock) (i t : 
       go (after inForce T calls (callsBy K t)) (running inForce T (after inForce T calls (callsBy K t) .entry)) refl
       (sym (last-is A calls (callsBy K t)) ∙ eqb-true named (priority T i) (counted (eqb named (priority T i)) h))
     where
-      go : (s : State) (q : Place) → running inForce T (s .entry) ≡ q → priorityOf (numberAt T (s .entry) q) ≡ priority T i → q ≡ at i
+      go : (s : State) (q : Place) → running inForce T (s .entry) ≡ q → priorityIn (runningOf (numberAt T (s .entry) q)) ≡ priority T i → q ≡ at i
       go s nowhere r e = absurd (omega (arith, A .below i lt))
       go s (at j) r e = let R : Runs inForce T s j = runs r in ap at (A .unique j i (R .inside) lt e)
 
@@ -77,7 +78,7 @@ module _ {T : Table} (A : Accepted T) (calls : ℕ → Call) (K : Clock) (i t : 
       → executes K (seenUnder inForce T calls) (priority T i) t ≡ 1
   runs-executes e =
       let s = after inForce T calls (callsBy K t) in
-      let named = last-is A calls (callsBy K t) ∙ ap (λ q. priorityOf (numberAt T (s .entry) q)) e in
+      let named = last-is A calls (callsBy K t) ∙ ap (λ q. priorityIn (runningOf (numberAt T (s .entry) q))) e in
       ap (λ b. only b 1) (eq-eqb (lastNamed (seenUnder inForce T calls) (callsBy K t)) (priority T i) named)
 
   -- who rests is asleep

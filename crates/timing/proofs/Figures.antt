@@ -90,10 +90,10 @@ module _ (s : List ℕ) (h : Shape) where
         times a b = timesOf s (h .«uses_at») (h .uses) (taskOf s a .priority) b
 
     -- what is counted for a task and a resource is 0, or N of a use by it: what holds of both holds of it
-    counted : (P : ℕ → Type 0) (q r : ℕ) → q < h .tasks → P 0 → ((U : UseOf s h q r) → P (usage (U .index) .times))
+    count-by : (P : ℕ → Type 0) (q r : ℕ) → q < h .tasks → P 0 → ((U : UseOf s h q r) → P (usage (U .index) .times))
         → P (countOf (allTimes s h) q r)
-    counted P q zero lt none each = none
-    counted P q (suc r) lt none each = go (decLt r 16)
+    count-by P q zero lt none each = none
+    count-by P q (suc r) lt none each = go (decLt r 16)
       where
         named : (j : ℕ) → j < h .uses → names (usage j) (taskOf s q .priority) (suc r) ≡ true → UseOf s h q (suc r)
         named j l e =
@@ -122,8 +122,8 @@ module _ (s : List ℕ) (h : Shape) where
       priority-is = byte-of s h W 1;
       setting-is = λ i lt. byte-of s h W 2 i lt ∙ sym (setting-seen i lt);
       most-is = byte-of s h W 3;
-      use-of = λ q r lt. counted (λ x. 0 < x → UseOf s h q r) q r lt (λ z. absurd (omega arith)) (λ U z. U);
-      times-most = λ k lt. counted (λ x. x ≤ usage k .times) _ (usage k .resource) (W .owned k lt) (omega arith)
+      use-of = λ q r lt. count-by (λ x. 0 < x → UseOf s h q r) q r lt (λ z. absurd (omega arith)) (λ U z. U);
+      times-most = λ k lt. count-by (λ x. x ≤ usage k .times) _ (usage k .resource) (W .owned k lt) (omega arith)
           (λ U. omega (arith, ap (λ j. usage j .times) (one-use U (record { index = k; inside = lt; user = refl; resource = refl }))));
     }
 

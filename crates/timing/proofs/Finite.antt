@@ -173,9 +173,9 @@ module _ (s : List ℕ) (h : Shape) (counts : List ℕ) (X : Seen) where
         impossible (cc (lasts-on, not-true (lasting e f end) closes))
 
     -- the ticks counted are among those since the event
-    counted : (c : ℕ → ℕ) (u n k : ℕ) → clock .first (u + n) ≤ k → o < callsBy clock u → Spell (X .event) e f o k
+    since-counts : (c : ℕ → ℕ) (u n k : ℕ) → clock .first (u + n) ≤ k → o < callsBy clock u → Spell (X .event) e f o k
         → count c u n ≤ since (lasting e f) c (u + n)
-    counted c u n k le lo w =
+    since-counts c u n k le lo w =
         since-so (lasting e f) c u n (λ x lt.
         lasts-so (X .event) e f (callsBy clock (u + x))
         (was-so w (omega (arith, lo, first-rises clock (suc u) (suc (u + x)) (omega arith)))
@@ -193,7 +193,7 @@ module _ (s : List ℕ) (h : Shape) (counts : List ℕ) (X : Seen) where
             omega (
               arith,
               ltb-true (since (lasting e f) c (u + n)) m less,
-              counted c u n (callsBy clock (u + n)) (first-rises clock (u + n) (suc (u + n)) (omega arith)) lo w,
+              since-counts c u n (callsBy clock (u + n)) (first-rises clock (u + n) (suc (u + n)) (omega arith)) lo w,
             )
         go (no ge) = absurd (ends (suc (u + n)) (omega arith) w)
 
@@ -205,7 +205,7 @@ module _ (s : List ℕ) (h : Shape) (counts : List ℕ) (X : Seen) where
         go : Dec (u + n ≤ end) → count c u n ≤ m
         go (yes le) =
             let t = all-each (λ t. leb (since (lasting e f) c t) m) (suc end) passed (u + n) (omega arith) in
-            omega (arith, leb-true (since (lasting e f) c (u + n)) m t, counted c u n (clock .first (u + n)) (le-refl (clock .first (u + n))) lo w)
+            omega (arith, leb-true (since (lasting e f) c (u + n)) m t, since-counts c u n (clock .first (u + n)) (le-refl (clock .first (u + n))) lo w)
         go (no gt) = absurd (ends (u + n) (omega arith) w)
 
   -- calls that pass keep to the table

@@ -118,7 +118,7 @@ module _ {T : Table} (A : Accepted T) (calls : ℕ → Call) where
       (g .0 .runs, g .1)
 
   -- and is gone then
-  pub after-end : (k i : ℕ) → i < T .size → event inForce T calls k ≡ ended (priority T i) → after inForce T calls (suc k) .entry i .status ≡ none
+  after-end : (k i : ℕ) → i < T .size → event inForce T calls k ≡ ended (priority T i) → after inForce T calls (suc k) .entry i .status ≡ none
   unfolding after
   after-end k i lt e =
       let s = after inForce T calls k in

@@ -1,24 +1,29 @@
+-- What is proved: `Theorems` has the chief statements, `Witness` and `Late` that they are not empty and not of every rule.
+pub mod Theorems
+pub mod Witness
+pub mod Late
+-- Numbers of ticks.
 pub mod Counts
 pub mod Streams
 pub mod Bags
+-- Calls: at instants, and what they leave of jobs and sections.
 pub mod Instants
 pub mod Jobs
 pub mod Marks
+pub mod Sections
 pub mod Cover
 pub mod Executing
+-- The argument.
 pub mod Figures
 pub mod Given
 pub mod Pace
 pub mod Start
 pub mod Window
 pub mod Charges
-pub mod Sections
 pub mod LowSections
 pub mod Touched
 pub mod Blocks
 pub mod Blocking
 pub mod Releases
-pub mod Theorems
+-- Calls that come to an end.
 pub mod Finite
-pub mod Witness
-pub mod Late

@@ -109,11 +109,11 @@ module _ {T : Table} (A : Accepted T) (s : State) (c : Call) (k : ℕ) (lt : k <
 
 module _ {T : Table} (A : Accepted T) (calls : ℕ → Call) (i : ℕ) (lt : i < T .size) where
   -- the sleeps made, after k calls
-  abbrev pub sleepsAt : ℕ → ℕ
+  abbrev sleepsAt : ℕ → ℕ
   sleepsAt k = after inForce T calls k .entry i .sleeps
 
   -- the sections of r opened, after k calls
-  abbrev pub openedAt : ℕ → ℕ → ℕ
+  abbrev openedAt : ℕ → ℕ → ℕ
   openedAt r k = after inForce T calls k .entry i .opened r
 
   -- what the call k does to the sleeps

@@ -29,7 +29,6 @@ use Rattle.protocol.specs.Tasks.{Table, priority, setting}
 use Rattle.protocol.specs.State.{State, isAsleep}
 use Rattle.protocol.specs.Running.{inForce}
 use Rattle.protocol.specs.Checks.{Call, ruling}
-use Rattle.protocol.specs.Step as machine
 use Rattle.protocol.specs.Step.{step}
 use Rattle.protocol.specs.Trace.{Event, released, ended, outcome, after}
 use Rattle.protocol.proofs.Former.{aboveSystem, ruling-same, step-same}
@@ -41,7 +40,7 @@ use Rattle.scheduler.specs.Fresh.{freshOf}
 use Rattle.scheduler.specs.Driven.{Driven}
 use Rattle.scheduler.proofs.Beginning.{byte-of, fresh-accepted}
 use Rattle.scheduler.proofs.Theorems.{state-is, event-is, running-is, refusal-is}
-use Rattle.timing.specs.Statement.{Clock, At, seen, priorityIn, priorityOf, seenUnder, Obeys, OverWithin, InTime, AtTheInstant, ReleasedAgain}
+use Rattle.timing.specs.Statement.{Clock, At, seen, priorityIn, seenUnder, Obeys, OverWithin, InTime, ReleasedAgain, AtTheInstant, ReleasedInTime}
 use Rattle.timing.proofs.Instants.{first-rises, instant}
 use Rattle.timing.proofs.Jobs.{is-ended, before-release}
 use Rattle.timing.proofs.Figures.{own-figures}
@@ -80,10 +79,10 @@ module _ (G : Given) where
           no-window D (low-bounded D)
 
 -- among the first k calls some ended p's job since the call a, or none did
-since : (event : ℕ → Event) (p a k : ℕ)
+ended-since : (event : ℕ → Event) (p a k : ℕ)
     → ((j : ℕ) × (a < j) × (j < k) × (event j ≡ ended p)) ⊎ ((j : ℕ) → a < j → j < k → event j ≡ ended p → ⊥)
-since event p a zero = inr (λ j lo hi e. omega arith)
-since event p a (suc k) = go (since event p a k) (decLt a k) (is-ended (event k) p)
+ended-since event p a zero = inr (λ j lo hi e. omega arith)
+ended-since event p a (suc k) = go (ended-since event p a k) (decLt a k) (is-ended (event k) p)
   where
     go : ((j : ℕ) × (a < j) × (j < k) × (event j ≡ ended p)) ⊎ ((j : ℕ) → a < j → j < k → event j ≡ ended p → ⊥) → Dec (a < k) → Dec (event k ≡ ended p)
         → ((j : ℕ) × (a < j) × (j < suc k) × (event j ≡ ended p)) ⊎ ((j : ℕ) → a < j → j < suc k → event j ≡ ended p → ⊥)
@@ -97,9 +96,9 @@ since event p a (suc k) = go (since event p a k) (decLt a k) (is-ended (event k)
     go (inr f) (no l) d = inr (λ j lo hi e. absurd (omega arith))
 
 -- so each is over in time
-pub over-in-time : (G : Given) (i a r : ℕ) → i < G .table .size → ev G a ≡ released (priority (G .table) i) → At (G .clock) a r
+over-in-time : (G : Given) (i a r : ℕ) → i < G .table .size → ev G a ≡ released (priority (G .table) i) → At (G .clock) a r
     → OverWithin (G .clock) (sight G) (priority (G .table) i) a r (value G i)
-over-in-time G i a r lt e h = go (since (ev G) (priority (G .table) i) a (tick G (r + value G i)))
+over-in-time G i a r lt e h = go (ended-since (ev G) (priority (G .table) i) a (tick G (r + value G i)))
   where
     made : a < tick G (r + value G i)
     made = omega (arith, h .till, first-rises (G .clock) (suc r) (suc (r + value G i)) (omega arith))
@@ -154,52 +153,47 @@ module _ (s : List ℕ) (h : Shape) (accepted : readTable s ≡ reading.Accepted
           solved = solved yes-all;
         }
 
+    -- where a task is told a bound every task has one, and it is the task's value
+    told-value : (allowance i v : ℕ) → i < h .tasks → answerAt (analysed s allowance) i ≡ Bound v
+        → (yes-all : verdictOf s h ≡ true) × (value (given yes-all) i ≡ v)
+    told-value allowance i v lt told =
+        let w = bound-says s h accepted allowance i v lt told in
+        (w .0, each-value s h accepted i lt ∙ ap (theory.value (deadline (ownSystem s h) i)) (w .1))
+
+    -- a task's priority is that of its record
+    same : (i : ℕ) → i < h .tasks → priority T i ≡ taskOf s i .priority
+    same = own-figures s h (well-formed s h accepted) .priority-is
+
     -- every job is over within the bound that its task is told
     pub in-time : (allowance : ℕ) → InTime s h allowance K (seenUnder inForce T calls)
     in-time allowance i a r v lt told e p =
-        let w = bound-says s h accepted allowance i v lt told in
-        let G = given (w .0) in
-        let same = G .figures .priority-is i lt in
-        let is : value G i ≡ v = each-value s h accepted i lt ∙ ap (theory.value (deadline (ownSystem s h) i)) (w .1) in
-        subst (λ q. OverWithin K (seenUnder inForce T calls) q a r v) same
-        (subst (OverWithin K (seenUnder inForce T calls) (priority T i) a r) is
-        (over-in-time G i a r lt (e ∙ sym (ap released same)) p))
+        let w = told-value allowance i v lt told in
+        subst (λ q. OverWithin K (seenUnder inForce T calls) q a r v) (same i lt)
+        (subst (OverWithin K (seenUnder inForce T calls) (priority T i) a r) (w .1)
+        (over-in-time (given (w .0)) i a r lt (e ∙ sym (ap released (same i lt))) p))
 
     -- and a release T or more after the last one is refused with 12 only where the job's end is called later at that instant
-    pub released-again : (allowance i a b t u v : ℕ) → i < h .tasks → answerAt (analysed s allowance) i ≡ Bound v
-        → ReleasedAgain calls K (seenUnder inForce T calls) (taskOf s i .priority) a b t u (taskOf s i .period)
-        → step inForce T (after inForce T calls b) (calls b) .refusal ≡ 12
-        → AtTheInstant K (seenUnder inForce T calls) (taskOf s i .priority) b t u v (taskOf s i .period)
-    released-again allowance i a b t u v lt told again refused =
-        let W = well-formed s h accepted in
-        let same = own-figures s h W .priority-is i lt in
-        let bound = bound-says s h accepted allowance i v lt told in
-        let G = given (bound .0) in
-        let is : value G i ≡ v = each-value s h accepted i lt ∙ ap (theory.value (deadline (ownSystem s h) i)) (bound .1) in
-        subst (λ q. AtTheInstant K (seenUnder inForce T calls) q b t u v (taskOf s i .period)) same
-        (refused-at (fresh-accepted s h W) calls K lt
-        (subst (λ q. ReleasedAgain calls K (seenUnder inForce T calls) q a b t u (taskOf s i .period)) (sym same) again) refused
-        (omega (arith, is, value-room G i lt .1))
-        (subst (λ q. OverWithin K (seenUnder inForce T calls) q a t v) (sym same) (in-time allowance i a t v lt told (again .last) (again .last-at))))
+    pub released-in-time : (allowance : ℕ)
+        → ReleasedInTime s h allowance calls K (seenUnder inForce T calls) (λ k. step inForce T (after inForce T calls k) (calls k) .refusal)
+    released-in-time allowance i a b t u v lt told again refused =
+        let w = told-value allowance i v lt told in
+        subst (λ q. AtTheInstant K (seenUnder inForce T calls) q b t u v (taskOf s i .period)) (same i lt)
+        (refused-at (fresh-accepted s h (well-formed s h accepted)) calls K lt
+        (subst (λ q. ReleasedAgain calls K (seenUnder inForce T calls) q a b t u (taskOf s i .period)) (sym (same i lt)) again) refused
+        (omega (arith, w .1, value-room (given (w .0)) i lt .1))
+        (subst (λ q. OverWithin K (seenUnder inForce T calls) q a t v) (sym (same i lt))
+        (in-time allowance i a t v lt told (again .last) (again .last-at))))
 
 -- ---- the scheduler's own calls
-
--- a reply names the priority that the machine's does
-same-priority : (r : machine.Running) → priorityIn (runningOf r) ≡ priorityOf r
-same-priority machine.Running.idle = refl
-same-priority (machine.Running.job p n) = refl
 
 module _ {s : List ℕ} {h : Shape} {calls : ℕ → Call} {S : ℕ → Scheduler} {R : ℕ → Reply} (D : Driven s h calls S R) where
   -- what is seen of them is what is seen of the machine's
   pub seen-is : seen calls S R ≡ seenUnder inForce (tableOf (freshOf s h)) calls
   seen-is =
       let events = fun-ext (event-is D) in
-      let names = fun-ext (λ k. ap priorityIn (running-is D k) ∙ same-priority (step inForce T (after inForce T calls k) (calls k) .running)) in
+      let names = fun-ext (λ k. ap priorityIn (running-is D k)) in
       let sleepers = fun-ext (λ k. fun-ext (λ i. ap (λ x. isAsleep (x .entry i .status)) (state-is D k))) in
       λ x. record { event = events x; named = names x; asleep = sleepers x }
-    where
-      T : Table
-      T = tableOf (freshOf s h)
 
   module _ (K : Clock) (O : Obeys s h K (seen calls S R)) where
     -- every job is over within the bound that its task is told
@@ -208,14 +202,11 @@ module _ {s : List ℕ} {h : Shape} {calls : ℕ → Call} {S : ℕ → Schedule
         subst (InTime s h allowance K) (sym seen-is) (in-time s h (D .reads) calls K (subst (Obeys s h K) seen-is O) allowance)
 
     -- and a release T or more after the last one is refused with 12 only where the job's end is called later at that instant
-    pub calls-released-again : (allowance i a b t u v : ℕ) → i < h .tasks → answerAt (analysed s allowance) i ≡ Bound v
-        → ReleasedAgain calls K (seen calls S R) (taskOf s i .priority) a b t u (taskOf s i .period) → R b .refusal ≡ 12
-        → AtTheInstant K (seen calls S R) (taskOf s i .priority) b t u v (taskOf s i .period)
-    calls-released-again allowance i a b t u v lt told again refused =
-        subst (λ X. AtTheInstant K X (taskOf s i .priority) b t u v (taskOf s i .period)) (sym seen-is)
-        (released-again s h (D .reads) calls K (subst (Obeys s h K) seen-is O) allowance i a b t u v lt told
-        (subst (λ X. ReleasedAgain calls K X (taskOf s i .priority) a b t u (taskOf s i .period)) seen-is again)
-        (sym (refusal-is D b) ∙ refused))
+    pub calls-released-in-time : (allowance : ℕ) → ReleasedInTime s h allowance calls K (seen calls S R) (λ k. R k .refusal)
+    calls-released-in-time allowance =
+        subst (λ X. ReleasedInTime s h allowance calls K X (λ k. R k .refusal)) (sym seen-is)
+        (subst (ReleasedInTime s h allowance calls K (seenUnder inForce (tableOf (freshOf s h)) calls)) (sym (fun-ext (refusal-is D)))
+        (released-in-time s h (D .reads) calls K (subst (Obeys s h K) seen-is O) allowance))
 
 -- ---- the former rule
 
@@ -245,8 +236,8 @@ module _ (s : List ℕ) (h : Shape) (accepted : readTable s ≡ reading.Accepted
         ap (λ x. outcome (ruling inForce bare x (calls k)) (calls k)) (states-same k)
         ∙ ap (λ r. outcome r (calls k)) (ruling-same A bare-zeros (after aboveSystem bare calls k) (calls k))) in
         let names = fun-ext (λ k.
-        ap (λ x. priorityOf (step inForce bare x (calls k) .running)) (states-same k)
-        ∙ ap (λ r. priorityOf (r .running)) (step-same A bare-zeros (after aboveSystem bare calls k) (calls k))) in
+        ap (λ x. priorityIn (runningOf (step inForce bare x (calls k) .running))) (states-same k)
+        ∙ ap (λ r. priorityIn (runningOf (r .running))) (step-same A bare-zeros (after aboveSystem bare calls k) (calls k))) in
         let sleepers = fun-ext (λ k. fun-ext (λ i. ap (λ x. isAsleep (x .entry i .status)) (states-same k))) in
         λ x. record { event = events x; named = names x; asleep = sleepers x }
 

@@ -16,12 +16,13 @@ use Rattle.protocol.specs.Tasks.{Table}
 use Rattle.protocol.specs.State.{isAsleep}
 use Rattle.protocol.specs.Running.{Rule}
 use Rattle.protocol.specs.Checks.{Call, release}
-use Rattle.protocol.specs.Step as machine
+use Rattle.protocol.specs.Step.{step}
 use Rattle.protocol.specs.Trace.{Event, released, ended, after, event, Open, Has}
 use Rattle.scheduler.specs.declared.Scheduler.{Scheduler}
 use Rattle.scheduler.specs.declared.Running.{Running}
 use Rattle.scheduler.specs.declared.Reply.{Reply}
 use Rattle.scheduler.specs.View.{stateOf}
+use Rattle.scheduler.specs.Replies.{runningOf}
 use Rattle.scheduler.specs.Driven.{told}
 
 -- ---- instants and ticks
@@ -62,16 +63,11 @@ seen calls S R = record {
   asleep = λ k i. isAsleep (stateOf (S k) .entry i .status);
 }
 
--- the priority in a reply of the machine
-abbrev pub priorityOf : machine.Running → ℕ
-priorityOf machine.Running.idle = 0
-priorityOf (machine.Running.job p n) = p
-
 -- of calls on the machine, under a rule
 abbrev pub seenUnder : Rule → Table → (ℕ → Call) → Seen
 seenUnder E T calls = record {
   event = event E T calls;
-  named = λ k. priorityOf (machine.step E T (after E T calls k) (calls k) .running);
+  named = λ k. priorityIn (runningOf (step E T (after E T calls k) (calls k) .running));
   asleep = λ k i. isAsleep (after E T calls k .entry i .status);
 }
 
@@ -125,17 +121,7 @@ InTime s h allowance K X = (i a r v : ℕ) → i < h .tasks → answerAt (analys
 
 -- ---- releases
 
--- What there is to a release of p's task by the call b at the instant u, refused with 12 though it comes T or more after the task's last release, at
--- the instant t: it comes just T after that, the bound v is T, and a later call of the same instant ends the job.
-pub record AtTheInstant (K : Clock) (X : Seen) (p b t u v period : ℕ) : Type 0 where
-  pub just-then : u ≡ t + period
-  pub bound-whole : v ≡ period
-  pub call : ℕ
-  pub later : b < call
-  pub same : At K call u
-  pub ends : X .event call ≡ ended p
-
--- A release by the call b of the task of priority p, T or more after its last one, by the call a.
+-- The call b, at the instant u, asks for a release of the task of priority p, a period or more after the task's last one, by the call a at t.
 pub record ReleasedAgain (calls : ℕ → Call) (K : Clock) (X : Seen) (p a b t u period : ℕ) : Type 0 where
   pub order : a < b
   pub last : X .event a ≡ released p
@@ -144,3 +130,18 @@ pub record ReleasedAgain (calls : ℕ → Call) (K : Clock) (X : Seen) (p a b t 
   pub last-at : At K a t
   pub asked-at : At K b u
   pub apart : t + period ≤ u
+
+-- It comes just a period after that one, the bound v is the period, and a later call of the same instant ends the job.
+pub record AtTheInstant (K : Clock) (X : Seen) (p b t u v period : ℕ) : Type 0 where
+  pub just-then : u ≡ t + period
+  pub bound-whole : v ≡ period
+  pub call : ℕ
+  pub later : b < call
+  pub same : At K call u
+  pub ends : X .event call ≡ ended p
+
+-- of a task that is told a bound, a release T or more after the last one is refused with 12, by these refusals, only if it is at the very instant
+abbrev pub ReleasedInTime : List ℕ → Shape → ℕ → (ℕ → Call) → Clock → Seen → (ℕ → ℕ) → Type 0
+ReleasedInTime s h allowance calls K X refusal = (i a b t u v : ℕ) → i < h .tasks → answerAt (analysed s allowance) i ≡ Bound v
+    → ReleasedAgain calls K X (taskOf s i .priority) a b t u (taskOf s i .period) → refusal b ≡ 12
+    → AtTheInstant K X (taskOf s i .priority) b t u v (taskOf s i .period)
