@@ -41,11 +41,19 @@ charge G i j t = cond (leb (task G i .priority) (view G .setting j)) (exec G j t
 abbrev charges : Given → ℕ → ℕ → ℕ
 charges G i t = rest G i t + exec G i t + sumTo (λ j. charge G i j t) i + lowTick G i t
 
+-- who is awake isn't asleep
+wide-awake : (x : Status) → Awake x → isAsleep x ≡ false
+wide-awake none w = absurd w
+wide-awake ready w = refl
+wide-awake waiting w = refl
+wide-awake asleep w = absurd w
+
 module _ {G : Given} {m i a r b : ℕ} (D : Window G m i a r b) where
   -- In a tick of the window i has the late job; or it has none, and an obstacle has one.
   abbrev Phase : ℕ → Type 0
   Phase t = There G i a (tick G t) ⊎ ((during G t .entry i .status ≡ none) × ((j : ℕ) × Blocks (G .table) (during G t) i j))
 
+  -- each tick of it is so
   phase : (t : ℕ) → b ≤ t → t ≤ m → Phase t
   phase t lo hi = go (decLt a (tick G t))
     where
@@ -86,13 +94,6 @@ module _ {G : Given} {m i a r b : ℕ} (D : Window G m i a r b) where
         let reaches : task G i .priority ≤ view G .setting j =
         omega (arith, c .reaches, G .figures .priority-is i (D .inside), G .figures .setting-is j (c .inside)) in
         rw (le-leb (task G i .priority) (view G .setting j) reaches) (omega arith)
-
-    -- who is awake isn't asleep
-    wide-awake : (x : Status) → Awake x → isAsleep x ≡ false
-    wide-awake none w = absurd w
-    wide-awake ready w = refl
-    wide-awake waiting w = refl
-    wide-awake asleep w = absurd w
 
     -- where i's need is covered, the tick is charged
     by-cover : isAsleep (during G t .entry i .status) ≡ false → Covered (G .table) (during G t) i → 1 ≤ charges G i t

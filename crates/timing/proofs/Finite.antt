@@ -105,30 +105,35 @@ module _ (s : List ℕ) (h : Shape) (counts : List ℕ) (X : Seen) where
   abbrev within : Event → Event → (ℕ → ℕ) → ℕ → Bool
   within e f c m = all (λ t. leb (since (lasting e f) c t) m) (suc end)
 
-  -- a task's figures, its release and the end of its job
+  -- a task's figures
   abbrev task : ℕ → Task
   task i = taskOf s i
 
+  -- its release
   abbrev comes : ℕ → Event
   comes i = released (task i .priority)
 
+  -- the end of its job
   abbrev goes : ℕ → Event
   goes i = ended (task i .priority)
 
-  -- a use's figures, its lock and its unlock
+  -- a use's figures
   abbrev usage : ℕ → Use
   usage k = useOf s (h .«uses_at») k
 
+  -- its lock
   abbrev locks : ℕ → Event
   locks k = opened (usage k .priority) (usage k .resource)
 
+  -- its unlock
   abbrev unlocks : ℕ → Event
   unlocks k = closed (usage k .priority) (usage k .resource)
 
-  -- whether the job of a task has executed in less than C ticks before its last, and whether it sleeps through S at most
+  -- whether the job of a task has executed in less than C ticks before its last
   abbrev worksLess : ℕ → Bool
   worksLess i = below (comes i) (goes i) (executes clock X (task i .priority)) (task i .run)
 
+  -- whether it sleeps through S at most
   abbrev sleepsWithin : ℕ → Bool
   sleepsWithin i = within (comes i) (goes i) (rests clock X i) (task i .sleep)
 

@@ -37,17 +37,19 @@ pub record Given : Type 0 where
   pub solved : (i : ℕ) → i < table .size → Solution (rightSide (ownView bytes shape) i values) (taskOf bytes i .deadline) (at values i)
 
 module _ (G : Given) where
-  -- the state after k calls, and what the call k brings about
+  -- the state after k calls
   abbrev pub state : ℕ → State
   state k = after inForce (G .table) (G .calls) k
 
+  -- what the call k brings about
   abbrev pub ev : ℕ → Event
   ev k = event inForce (G .table) (G .calls) k
 
-  -- the calls made by the tick t, and the state in it
+  -- the calls made by the tick t
   abbrev pub tick : ℕ → ℕ
   tick t = callsBy (G .clock) t
 
+  -- the state in it
   abbrev pub during : ℕ → State
   during t = state (tick t)
 
@@ -55,17 +57,19 @@ module _ (G : Given) where
   abbrev pub runner : ℕ → Place
   runner t = running inForce (G .table) (during t .entry)
 
-  -- 1 where the task at i executes in it, or rests
+  -- 1 where the task at i executes in it
   abbrev pub exec : ℕ → ℕ → ℕ
   exec i t = executes (G .clock) (seenUnder inForce (G .table) (G .calls)) (priority (G .table) i) t
 
+  -- 1 where that rests in it
   abbrev pub rest : ℕ → ℕ → ℕ
   rest i t = rests (G .clock) (seenUnder inForce (G .table) (G .calls)) i t
 
-  -- the figures of the task at i, and its value
+  -- the figures of the task at i
   abbrev pub task : ℕ → Task
   task i = taskOf (G .bytes) i
 
+  -- its value
   abbrev pub value : ℕ → ℕ
   value i = at (G .values) i
 
@@ -154,10 +158,11 @@ module _ (G : Given) where
       let within = G .solved i lt .within in
       (omega (arith, value-is i lt), omega (arith, within, range .deadline-within))
 
-  -- C is 1 at least, and so is T
+  -- C is 1 at least
   pub run-some : (i : ℕ) → i < G .table .size → 0 < task i .run
   run-some i lt = G .well .task-range i (placed i lt) .run
 
+  -- and so is T
   pub period-some : (i : ℕ) → i < G .table .size → 0 < task i .period
   period-some i lt =
       let range = G .well .task-range i (placed i lt) in
