@@ -56,7 +56,8 @@ tally-falls y z (a ∷ l) h = omega (arith, hit-falls y z a h, tally-falls y z l
 
 -- ---- a sum by layers
 
-hit-layers : (m a : ℕ) → sumTo (λ y. hit (suc y) a) m ≡ min m a
+-- a number is as many as the heights up to m that it reaches, m at most
+pub hit-layers : (m a : ℕ) → sumTo (λ y. hit (suc y) a) m ≡ min m a
 unfolding sumTo
 hit-layers zero a = omega arith
 hit-layers (suc m) a = go (decLe (suc m) a) (hit-layers m a)

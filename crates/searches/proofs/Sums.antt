@@ -75,3 +75,14 @@ sumTo-grows f k (suc n) l = go (ℕ-discrete k (suc n)) (sumTo-grows f k n)
     go : Dec (k ≡ suc n) → (k ≤ n → sumTo f k ≤ sumTo f n) → sumTo f k ≤ sumTo f n + f n
     go (yes e) more = rw e (omega arith)
     go (no d) more = omega (arith, more (omega arith))
+
+-- one of the numbers is no more than all of them
+pub sumTo-at : (f : ℕ → ℕ) (k j : ℕ) → j < k → f j ≤ sumTo f k
+unfolding sumTo
+sumTo-at f k j lt = omega (arith, sumTo-grows f (suc j) k lt)
+
+-- sums of sums change places
+pub sumTo-swap : (f : ℕ → ℕ → ℕ) (k n : ℕ) → sumTo (λ x. sumTo (λ j. f j x) k) n ≡ sumTo (λ j. sumTo (f j) n) k
+unfolding sumTo
+sumTo-swap f k zero = omega (arith, sumTo-alike (λ j. 0) k 0 (λ j lt. refl))
+sumTo-swap f k (suc n) = omega (arith, sumTo-add (λ j. sumTo (f j) n) (λ j. f j n) k, sumTo-swap f k n)

@@ -1,79 +1,74 @@
 -- Blocks of ticks against a bag: blocks, each of some use and no longer than it, and no use taken more often than it is in the bag, have no more
 -- ticks than the largest of the bag.
 use Prim.Native.Nat.{ℕ, zero, suc, _+_, min, _≤_, _<_}
-use mathlib.Core.Path.{_≡_, refl, sym, ap, subst}
+use mathlib.Core.Path.{_≡_, refl, ap, _∙_}
+use mathlib.Core.Logic.{inl, inr}
 use mathlib.Core.Bool.{Bool, true, false, cond, _&&_}
-use mathlib.Core.List.{[], _∷_}
+use mathlib.Core.List.{List, [], _∷_}
 use native.Mathlib.Nat.{le-refl}
 use native.Mathlib.Omega.{arith}
 use native.Mathlib.Decide.{decLt}
 use lib.Dec.{eqb, ltb, leb}
-use borrow.Author.Tests.{eqb-true, eq-eqb, lt-ltb, leb-true}
+use lib.ListN.{length}
+use borrow.Author.Tests.{eq-eqb, lt-ltb, leb-true}
 use Rattle.searches.specs.Searches.{only, largest}
 use Rattle.searches.specs.Indexed.{sumTo}
-use Rattle.searches.proofs.Sums.{sumTo-same, sumTo-mono, sumTo-most, sumTo-alike}
+use Rattle.searches.proofs.Sums.{sumTo-same, sumTo-mono, sumTo-most, sumTo-alike, sumTo-at, sumTo-swap}
 use Rattle.searches.proofs.Searching.{largest-reaches}
-use Rattle.searches.proofs.Testing.{impossible, true-and}
+use Rattle.searches.proofs.Testing.{true-and}
 use Rattle.equations.specs.Bag.{bagTo, sumOfLargest}
-use Rattle.equations.proofs.Layers.{hit, reach, part-yes, part-no, part-most, largest-layers, bag-layers}
-use Rattle.timing.proofs.Counts.{sumTo-at, swap}
+use Rattle.equations.proofs.Layers.{hit, reach, part-yes, part-most, hit-layers, bag-layers}
+use Rattle.protocol.specs.ShortWaits.{Among, Distinct}
+use Rattle.protocol.proofs.Pigeons.{pigeons}
 
--- where those that pass are all the same, they are one at most
-one-of : (test : ℕ → Bool) (n : ℕ) → ((x z : ℕ) → test x ≡ true → test z ≡ true → x ≡ z) → sumTo (λ x. only (test x) 1) n ≤ 1
-unfolding sumTo
-one-of test zero once = omega arith
-one-of test (suc n) once = go (test n) refl (one-of test n once)
-  where
-    other : test n ≡ true → (x : ℕ) → x < n → (b : Bool) → test x ≡ b → only b 1 ≤ 0
-    other e x lt true f = absurd (omega (arith, once x n f e))
-    other e x lt false f = omega arith
+-- ---- those that pass a test
 
-    go : (b : Bool) → test n ≡ b → sumTo (λ x. only (test x) 1) n ≤ 1 → sumTo (λ x. only (test x) 1) n + only b 1 ≤ 1
-    go true e more = omega (arith, sumTo-most (λ x. only (test x) 1) n 0 (λ x lt. other e x lt (test x) refl))
-    go false e more = omega arith
+-- the numbers below n that pass
+unfoldable passing : (ℕ → Bool) → ℕ → List ℕ
+passing test zero = []
+passing test (suc n) = let rest = passing test n in cond (test n) (n ∷ rest) rest
 
--- those that pass, each with a number below k of its own, are k at most
-pub pigeons : (n k : ℕ) (P : ℕ → Bool) (R : ℕ → ℕ → Type 0) → ((x : ℕ) → P x ≡ true → (y : ℕ) × (y < k) × R x y)
-    → ((x z y : ℕ) → R x y → R z y → x ≡ z) → sumTo (λ x. only (P x) 1) n ≤ k
-pigeons n k P R choose once =
-    omega (
-      arith,
-      sumTo-mono (λ x. only (P x) 1) (λ x. sumTo (λ y. only (has y x) 1) k) n (λ x lt. placed x (P x) refl),
-      swap (λ y x. only (has y x) 1) k n,
-      sumTo-most (λ y. sumTo (λ x. only (has y x) 1) n) k 1
-          (λ y lt. one-of (has y) n (λ x z e f. once x z y (there x y (P x) refl e) (there z y (P z) refl f))),
-    )
-  where
-    -- whether y is the number of x
-    chosen : (x y : ℕ) (b : Bool) → P x ≡ b → Bool
-    chosen x y true e = eqb (choose x e .0) y
-    chosen x y false e = false
+module _ (test : ℕ → Bool) where
+  -- each is below n and passes
+  passes : (n o : ℕ) → Among o (passing test n) → (o < n) × (test o ≡ true)
+  unfolding passing
+  passes zero o p = absurd p
+  passes (suc n) o p = go (test n) refl p (passes n o)
+    where
+      go : (b : Bool) → test n ≡ b → Among o (cond b (n ∷ passing test n) (passing test n))
+          → (Among o (passing test n) → (o < n) × (test o ≡ true)) → (o < suc n) × (test o ≡ true)
+      go true e (inl q) more = (omega (arith, q), ap test q ∙ e)
+      go true e (inr q) more = let w = more q in (omega (arith, w .0), w .1)
+      go false e q more = let w = more q in (omega (arith, w .0), w .1)
 
-    -- the same, as P tells it
-    has : ℕ → ℕ → Bool
-    has y x = chosen x y (P x) refl
+  -- they are different
+  different : (n : ℕ) → Distinct (passing test n)
+  unfolding passing
+  different zero = tt
+  different (suc n) = go (test n) (different n)
+    where
+      go : (b : Bool) → Distinct (passing test n) → Distinct (cond b (n ∷ passing test n) (passing test n))
+      go true more = (λ y p e. omega (arith, passes n y p .0), more)
+      go false more = more
 
-    -- one that passes has a number below k
-    placed : (x : ℕ) (b : Bool) (e : P x ≡ b) → only b 1 ≤ sumTo (λ y. only (chosen x y b e) 1) k
-    placed x true e =
-        let y = choose x e .0 in
-        omega (arith, sumTo-at (λ y. only (chosen x y true e) 1) k y (choose x e .1), ap (λ b. only b 1) (eq-eqb y y refl))
-    placed x false e = omega arith
+  -- and as many as are counted
+  as-many : (n : ℕ) → sumTo (λ x. only (test x) 1) n ≡ length (passing test n)
+  unfolding passing sumTo
+  as-many zero = refl
+  as-many (suc n) = go (test n) (as-many n)
+    where
+      go : (b : Bool) → sumTo (λ x. only (test x) 1) n ≡ length (passing test n)
+          → sumTo (λ x. only (test x) 1) n + only b 1 ≡ length (cond b (n ∷ passing test n) (passing test n))
+      go true more = omega arith
+      go false more = omega arith
 
-    -- which is one that it was given
-    there : (x y : ℕ) (b : Bool) (e : P x ≡ b) → chosen x y b e ≡ true → R x y
-    there x y true e f = subst (R x) (eqb-true (choose x e .0) y f) (choose x e .2)
-    there x y false e f = absurd (impossible cc)
+  -- so, each with a number below k of its own, they are k at most
+  pub few-pass : (n k : ℕ) (R : ℕ → ℕ → Type 0) → ((x : ℕ) → test x ≡ true → (y : ℕ) × (y < k) × R x y)
+      → ((x z y : ℕ) → R x y → R z y → x ≡ z) → sumTo (λ x. only (test x) 1) n ≤ k
+  few-pass n k R choose once =
+      omega (arith, as-many n, pigeons R once k (passing test n) (different n) (λ o p. choose o (passes n o p .1)))
 
--- a number is as many as the heights that it reaches
-layers : (m a : ℕ) → a ≤ m → sumTo (λ y. hit (suc y) a) m ≡ a
-unfolding sumOfLargest
-layers m a le =
-    omega (
-      arith,
-      sumTo-same (λ y. hit (suc y) a) (λ y. min 1 (hit (suc y) a + 0)) m (λ y lt. omega (arith, part-most (leb (suc y) a) 1)),
-      largest-layers m 1 (a ∷ []) (omega (arith, part-no (suc m) a 1 (omega arith))),
-    )
+-- ---- blocks
 
 module _ (n k : ℕ) (size kin : ℕ → ℕ) (length repeats : ℕ → ℕ) where
   -- whether the block x is of the use j
@@ -86,8 +81,8 @@ module _ (n k : ℕ) (size kin : ℕ → ℕ) (length repeats : ℕ → ℕ) whe
   blocks-fit fit few =
       omega (
         arith,
-        sumTo-same size (λ x. sumTo (λ y. hit (suc y) (size x)) m) n (λ x lt. sym (layers m (size x) (within x lt (decLt 0 (size x))))),
-        swap (λ y x. hit (suc y) (size x)) m n,
+        sumTo-same size (λ x. sumTo (λ y. hit (suc y) (size x)) m) n (λ x lt. omega (arith, hit-layers m (size x), within x lt (decLt 0 (size x)))),
+        sumTo-swap (λ y x. hit (suc y) (size x)) m n,
         sumTo-mono (λ y. sumTo (λ x. hit (suc y) (size x)) n) (λ y. min n (reach k length repeats (suc y))) m
             (λ y lt. omega (arith, all y, reached y)),
         bag-layers m n k length repeats (λ j lt. largest-reaches length k j lt (le-refl (length j))),
@@ -136,7 +131,7 @@ module _ (n k : ℕ) (size kin : ℕ → ℕ) (length repeats : ℕ → ℕ) whe
           omega (
             arith,
             sumTo-mono (λ x. hit (suc y) (size x)) (λ x. sumTo (λ j. share y j x) k) n (λ x lt. some y x lt (leb (suc y) (size x)) refl),
-            swap (share y) k n,
+            sumTo-swap (share y) k n,
             sumTo-mono (λ j. sumTo (share y j) n) (λ j. cond (leb (suc y) (length j)) (repeats j) 0) k
                 (λ j lt. shares j lt (leb (suc y) (length j))),
           )

@@ -19,7 +19,7 @@ use Rattle.protocol.specs.Running.{inForce}
 use Rattle.protocol.proofs.Runner.{Runs, runs}
 use Rattle.timing.specs.Statement.{count}
 use Rattle.timing.proofs.Counts.{count-split, count-more, count-none}
-use Rattle.timing.proofs.Bags.{pigeons, blocks-fit}
+use Rattle.timing.proofs.Bags.{few-pass, blocks-fit}
 use Rattle.timing.proofs.Figures.{user-inside, user-priority, ceiling-most}
 use Rattle.timing.proofs.Given.{Given, during, task, value, view}
 use Rattle.timing.proofs.Pace.{of-live, of-born, of-age}
@@ -116,7 +116,7 @@ module _ {G : Given} {m i a r b : ℕ} (D : Window G m i a r b) where
     -- a use is taken no more often than it is in the bag
     few : (n j : ℕ) → sumTo (λ x. only (ltb 0 (size D (s + x)) && eqb (kin (s + x)) j) 1) n ≤ repeats (view G) i (G .values) (value G i) j
     few n j =
-        pigeons n (repeats (view G) i (G .values) (value G i) j) (λ x. ltb 0 (size D (s + x)) && eqb (kin (s + x)) j)
+        few-pass (λ x. ltb 0 (size D (s + x)) && eqb (kin (s + x)) j) n (repeats (view G) i (G .values) (value G i) j)
         (λ x y. (B : Block D (s + x) j) × (rankIn B ≡ y)) choose
         (λ x z y v w. omega (arith, rank-in-once (v .0) (w .0) (v .1 ∙ sym (w .1))))
       where

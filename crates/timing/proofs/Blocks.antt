@@ -10,13 +10,13 @@ use lib.Dec.{eqb}
 use borrow.Author.Tests.{eqb-true, eq-eqb}
 use Rattle.searches.specs.Searches.{at, only}
 use Rattle.searches.specs.Indexed.{sumTo}
-use Rattle.searches.proofs.Sums.{sumTo-same, sumTo-mono}
+use Rattle.searches.proofs.Sums.{sumTo-same, sumTo-mono, sumTo-at}
 use Rattle.searches.proofs.Leading.{only-most}
 use Rattle.protocol.specs.Tasks.{priority}
 use Rattle.protocol.specs.State.{isAsleep}
 use Rattle.protocol.specs.Trace.{Open}
 use Rattle.timing.specs.Statement.{count}
-use Rattle.timing.proofs.Counts.{count-split, find, to-last, sumTo-at, exchange}
+use Rattle.timing.proofs.Counts.{count-split, find, to-last, exchange}
 use Rattle.timing.proofs.Executing.{runs-executes}
 use Rattle.timing.proofs.Figures.{UseOf}
 use Rattle.timing.proofs.Given.{Given, ev, during, runner, exec, task, value, view, holds}

@@ -10,7 +10,7 @@ use lib.Dec.{leb}
 use borrow.Author.Tests.{lt-ltb, le-leb, leb-true}
 use Rattle.searches.specs.Searches.{at}
 use Rattle.searches.specs.Indexed.{sumTo}
-use Rattle.searches.proofs.Sums.{sumTo-alike, sumTo-mono, sumTo-add}
+use Rattle.searches.proofs.Sums.{sumTo-alike, sumTo-mono, sumTo-add, sumTo-at}
 use Rattle.equations.specs.Counting.{ceil}
 use Rattle.equations.specs.Equations.{blocking, addition, additions}
 use Rattle.equations.proofs.Places.{additions-by-place}
@@ -22,7 +22,7 @@ use Rattle.protocol.proofs.Runner.{held-holds, Runs, runs}
 use Rattle.protocol.proofs.Lows.{Awake, awake-or-asleep, unheld}
 use Rattle.protocol.proofs.Counting.{has-until}
 use Rattle.timing.specs.Statement.{count}
-use Rattle.timing.proofs.Counts.{count-split, count-none, find, sumTo-at, exchange}
+use Rattle.timing.proofs.Counts.{count-split, count-none, find, exchange}
 use Rattle.timing.proofs.Streams.{any-count, new-count}
 use Rattle.timing.proofs.Instants.{first-rises, in-order}
 use Rattle.timing.proofs.Jobs.{holds-at, there-live}

@@ -5,10 +5,10 @@ use mathlib.Core.Bool.{Bool, true, false}
 use mathlib.Core.Logic.{_⊎_, inl, inr}
 use native.Mathlib.Nat.{add-suc}
 use native.Mathlib.Omega.{arith}
-use native.Mathlib.Decide.{decLt, ℕ-discrete}
+use native.Mathlib.Decide.{decLt}
 use Rattle.searches.specs.Searches.{only}
 use Rattle.searches.specs.Indexed.{sumTo}
-use Rattle.searches.proofs.Sums.{sumTo-alike, sumTo-most, sumTo-add}
+use Rattle.searches.proofs.Sums.{sumTo-most, sumTo-swap}
 use Rattle.timing.specs.Statement.{count}
 
 -- where a tick counts the test passed
@@ -61,22 +61,6 @@ module _ (f : ℕ → ℕ) where
       go (yes p) more = h n (omega arith) p
       go (no p) more = omega arith
 
--- one of the numbers is no more than all of them
-pub sumTo-at : (g : ℕ → ℕ) (k j : ℕ) → j < k → g j ≤ sumTo g k
-unfolding sumTo
-sumTo-at g zero j lt = absurd (omega arith)
-sumTo-at g (suc k) j lt = go (ℕ-discrete j k) (sumTo-at g k j)
-  where
-    go : Dec (j ≡ k) → (j < k → g j ≤ sumTo g k) → g j ≤ sumTo g k + g k
-    go (yes e) more = omega (arith, ap g e)
-    go (no ne) more = omega (arith, more (omega arith))
-
--- sums change places
-pub swap : (g : ℕ → ℕ → ℕ) (k n : ℕ) → sumTo (λ x. sumTo (λ j. g j x) k) n ≡ sumTo (λ j. sumTo (λ x. g j x) n) k
-unfolding sumTo
-swap g k zero = omega (arith, sumTo-alike (λ j. 0) k 0 (λ j lt. refl))
-swap g k (suc n) = omega (arith, sumTo-add (λ j. sumTo (λ x. g j x) n) (λ j. g j n) k, swap g k n)
-
--- so do a count and a sum
+-- a count and a sum change places
 pub exchange : (g : ℕ → ℕ → ℕ) (k u n : ℕ) → count (λ t. sumTo (λ j. g j t) k) u n ≡ sumTo (λ j. count (g j) u n) k
-exchange g k u n = swap (λ j x. g j (u + x)) k n
+exchange g k u n = sumTo-swap (λ j x. g j (u + x)) k n

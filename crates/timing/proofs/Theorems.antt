@@ -1,14 +1,15 @@
 -- What is proved: every job is over in time, and so a release a period after the last one finds its task's job gone.
 use Prim.Native.Nat.{ℕ, zero, suc, _+_, _<_}
 use mathlib.Core.Path.{_≡_, refl, sym, ap, subst, fun-ext, _∙_}
-use mathlib.Core.Logic.{_⊎_, inl, inr}
-use mathlib.Core.Bool.{true}
+use mathlib.Core.Bool.{Bool, true, false, not, _&&_}
 use mathlib.Core.List.{List}
 use native.Mathlib.Omega.{arith}
-use native.Mathlib.Decide.{decLt, ℕ-discrete}
-use Rattle.searches.proofs.Searching.{all-each}
+use native.Mathlib.Decide.{ℕ-discrete}
+use lib.Dec.{ltb}
+use borrow.Author.Tests.{ltb-true, not-false}
+use Rattle.searches.proofs.Searching.{all-each, all-fails}
 use Rattle.searches.proofs.Indexed.{every-at}
-use Rattle.searches.proofs.Testing.{impossible}
+use Rattle.searches.proofs.Testing.{impossible, and-true}
 use Rattle.table.specs.declared.Shape.{Shape}
 use Rattle.table.specs.declared.Reading.the-variants as reading
 use Rattle.table.specs.Reading.{readTable}
@@ -31,6 +32,7 @@ use Rattle.protocol.specs.Running.{inForce}
 use Rattle.protocol.specs.Checks.{Call, ruling}
 use Rattle.protocol.specs.Step.{step}
 use Rattle.protocol.specs.Trace.{Event, released, ended, outcome, after}
+use Rattle.protocol.proofs.Listed.{is, is-so, never, never-so}
 use Rattle.protocol.proofs.Former.{aboveSystem, ruling-same, step-same}
 use Rattle.scheduler.specs.declared.Scheduler.{Scheduler}
 use Rattle.scheduler.specs.declared.Reply.{Reply}
@@ -42,7 +44,7 @@ use Rattle.scheduler.proofs.Beginning.{byte-of, fresh-accepted}
 use Rattle.scheduler.proofs.Theorems.{state-is, event-is, running-is, refusal-is}
 use Rattle.timing.specs.Statement.{Clock, At, seen, priorityIn, seenUnder, Obeys, OverWithin, InTime, ReleasedAgain, AtTheInstant, ReleasedInTime}
 use Rattle.timing.proofs.Instants.{first-rises, instant}
-use Rattle.timing.proofs.Jobs.{is-ended, before-release}
+use Rattle.timing.proofs.Jobs.{before-release}
 use Rattle.timing.proofs.Figures.{own-figures}
 use Rattle.timing.proofs.Given.{Given, ev, tick, value, There, sight, value-room}
 use Rattle.timing.proofs.Pace.{Before}
@@ -78,37 +80,28 @@ module _ (G : Given) where
           } in
           no-window D (low-bounded D)
 
--- among the first k calls some ended p's job since the call a, or none did
-ended-since : (event : ℕ → Event) (p a k : ℕ)
-    → ((j : ℕ) × (a < j) × (j < k) × (event j ≡ ended p)) ⊎ ((j : ℕ) → a < j → j < k → event j ≡ ended p → ⊥)
-ended-since event p a zero = inr (λ j lo hi e. omega arith)
-ended-since event p a (suc k) = go (ended-since event p a k) (decLt a k) (is-ended (event k) p)
-  where
-    go : ((j : ℕ) × (a < j) × (j < k) × (event j ≡ ended p)) ⊎ ((j : ℕ) → a < j → j < k → event j ≡ ended p → ⊥) → Dec (a < k) → Dec (event k ≡ ended p)
-        → ((j : ℕ) × (a < j) × (j < suc k) × (event j ≡ ended p)) ⊎ ((j : ℕ) → a < j → j < suc k → event j ≡ ended p → ⊥)
-    go (inl w) c d = inl (w .0, w .1, omega (arith, w .2), w .3)
-    go (inr f) (yes l) (yes e) = inl (k, l, omega arith, e)
-    go (inr f) (yes l) (no n) = inr (λ j lo hi e. by j lo hi e (ℕ-discrete j k))
-      where
-        by : (j : ℕ) → a < j → j < suc k → event j ≡ ended p → Dec (j ≡ k) → ⊥
-        by j lo hi e (yes q) = n (subst (λ x. event x ≡ ended p) q e)
-        by j lo hi e (no q) = f j lo (omega arith) e
-    go (inr f) (no l) d = inr (λ j lo hi e. absurd (omega arith))
-
--- so each is over in time
+-- so each is over in time: a call up to then ended it
 over-in-time : (G : Given) (i a r : ℕ) → i < G .table .size → ev G a ≡ released (priority (G .table) i) → At (G .clock) a r
     → OverWithin (G .clock) (sight G) (priority (G .table) i) a r (value G i)
-over-in-time G i a r lt e h = go (ended-since (ev G) (priority (G .table) i) a (tick G (r + value G i)))
+over-in-time G i a r lt e h = go (never (ev G) end a due) refl
   where
-    made : a < tick G (r + value G i)
+    end : Event
+    end = ended (priority (G .table) i)
+
+    due : ℕ
+    due = tick G (r + value G i)
+
+    made : a < due
     made = omega (arith, h .till, first-rises (G .clock) (suc r) (suc (r + value G i)) (omega arith))
 
-    go : OverWithin (G .clock) (sight G) (priority (G .table) i) a r (value G i)
-        ⊎ ((j : ℕ) → a < j → j < tick G (r + value G i) → ev G j ≡ ended (priority (G .table) i) → ⊥)
-        → OverWithin (G .clock) (sight G) (priority (G .table) i) a r (value G i)
-    go (inl w) = w
-    go (inr f) =
-        absurd (none-late G (suc (r + value G i)) i a r lt e h (omega arith) (record { began = e; made = made; going = f }))
+    go : (b : Bool) → never (ev G) end a due ≡ b → OverWithin (G .clock) (sight G) (priority (G .table) i) a r (value G i)
+    go true t =
+        let late : There G i a due = record { began = e; made = made; going = never-so (ev G) end a due t } in
+        absurd (none-late G (suc (r + value G i)) i a r lt e h (omega arith) late)
+    go false t =
+        let w = all-fails (λ j. not (ltb a j && is (ev G j) end)) due t in
+        let c = and-true (ltb a (w .0)) (is (ev G (w .0)) end) (not-false _ (w .2)) in
+        (w .0, ltb-true a (w .0) (c .0), w .1, is-so (ev G (w .0)) end (c .1))
 
 -- ---- from the bytes of a table
 
