@@ -1,7 +1,7 @@
 -- What a host is told: refused with 8 exactly when the total is larger than the allowance, an answer given stands under any larger one, the
 -- verdict is yes exactly when no task has none, and a value is conditional exactly when some task has none.
 use Prim.Native.Nat.{ℕ, _-_, _≤_, _<_}
-use mathlib.Core.Path.{_≡_, refl, sym, ap, _∙_}
+use mathlib.Core.Path.{_≡_, refl, sym, ap, ap₂, _∙_}
 use mathlib.Core.Logic.{_↔_}
 use mathlib.Core.Bool.{Bool, true, false, cond}
 use mathlib.Core.List.{List}
@@ -20,8 +20,9 @@ use Rattle.table.specs.Reading.{readTable}
 use Rattle.table.specs.WellFormed.{taskOf}
 use Rattle.table.proofs.Accepted.{well-formed}
 use Rattle.rounds.specs.Answer as theory
-use Rattle.rounds.specs.Answer.{Right, value}
+use Rattle.rounds.specs.Answer.{Solution, Right, value}
 use Rattle.rounds.specs.System.{deadline}
+use Rattle.rounds.specs.Vector.{at}
 use Rattle.rounds.specs.Rounds.{analysis, answer}
 use Rattle.rounds.specs.AllowanceLaws.{within-allowed, beyond-refused}
 use Rattle.equations.specs.View.{ownSettings}
@@ -163,6 +164,23 @@ module _ (s : List ℕ) (h : Shape) (e : readTable s ≡ Accepted h) (allowance 
         back true v f w = absurd (verdict-yes .0 (verdict-is ∙ v) (w .0) (w .1) (w .2))
         back false v f w = rw (v, f)
 
+-- where every task has a bound, each is its value, and solves its equation within its deadline
+pub yes-solves : (s : List ℕ) (h : Shape) → readTable s ≡ Accepted h → verdictOf s h ≡ true → (i : ℕ) → i < h .tasks
+    → (t : ℕ) × (answer (ownSystem s h) i ≡ theory.bound t) × (at (analysis (ownSystem s h) .vector) i ≡ t)
+    × Solution (ownSystem s h .side i (analysis (ownSystem s h) .vector)) (taskOf s i .deadline) t
+yes-solves s h e yes-all i p =
+    go (answer (ownSystem s h) i) refl (all-each (λ j. bounded (answer (ownSystem s h) j)) (h .tasks) yes-all i p)
+    (each-right s h e i p) (each-value s h e i p)
+  where
+    v : List ℕ
+    v = analysis (ownSystem s h) .vector
+
+    go : (a : theory.Answer) → answer (ownSystem s h) i ≡ a → bounded a ≡ true → Right (ownSystem s h .side i v) (deadline (ownSystem s h) i) a
+        → at v i ≡ value (deadline (ownSystem s h) i) a
+        → (t : ℕ) × (answer (ownSystem s h) i ≡ theory.bound t) × (at v i ≡ t) × Solution (ownSystem s h .side i v) (taskOf s i .deadline) t
+    go (theory.bound t) q b r x = (t, q, x, rw (deadline-is s h (ownSettings s (h .tasks)) (well-formed s h e) i p) (r .solution))
+    go theory.none q b r x = absurd (impossible cc)
+
 -- a verdict of yes is given only within the allowance
 pub verdict-enough : (s : List ℕ) (h : Shape) → readTable s ≡ Accepted h → (allowance : ℕ) → analysed s allowance .verdict ≡ true
     → totalOf s h ≤ allowance
@@ -186,15 +204,8 @@ module _ (s : List ℕ) (h : Shape) (e : readTable s ≡ Accepted h) (allowance 
   yes-told i p =
       let l = verdict-enough s h e allowance yes-all in
       let v = sym (verdict-is s h e allowance l) ∙ yes-all in
-      go (answer (ownSystem s h) i) (all-each (λ j. bounded (answer (ownSystem s h) j)) (h .tasks) v i p)
-      (each-told s h e allowance l i p ∙ ap (λ b. toldOf b (answer (ownSystem s h) i)) v) (each-right s h e i p)
-    where
-      go : (a : theory.Answer) → bounded a ≡ true → answerAt (analysed s allowance) i ≡ toldOf true a
-          → Right (ownSystem s h .side i (analysis (ownSystem s h) .vector)) (deadline (ownSystem s h) i) a
-          → (t : ℕ) × (answerAt (analysed s allowance) i ≡ Bound t) × (1 ≤ t) × (t ≤ taskOf s i .deadline)
-      go (theory.bound t) b q r =
-          (t, q, r .solution .positive, rw (deadline-is s h (ownSettings s (h .tasks)) (well-formed s h e) i p) (r .solution .within))
-      go theory.none b q r = absurd (impossible cc)
+      let w = yes-solves s h e v i p in
+      (w .0, each-told s h e allowance l i p ∙ ap₂ toldOf v (w .1), w .3 .positive, w .3 .within)
 
 -- a bound is told only beside a verdict of yes
 bound-yes : (a : Analysis) (i t : ℕ) → answerAt a i ≡ Bound t → a .verdict ≡ true

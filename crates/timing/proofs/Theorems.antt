@@ -7,25 +7,23 @@ use native.Mathlib.Omega.{arith}
 use native.Mathlib.Decide.{ℕ-discrete}
 use lib.Dec.{ltb}
 use borrow.Author.Tests.{ltb-true, not-false}
-use Rattle.searches.proofs.Searching.{all-each, all-fails}
-use Rattle.searches.proofs.Indexed.{every-at}
-use Rattle.searches.proofs.Testing.{impossible, and-true}
+use Rattle.searches.proofs.Searching.{all-fails}
+use Rattle.searches.proofs.Testing.{and-true}
 use Rattle.table.specs.declared.Shape.{Shape}
 use Rattle.table.specs.declared.Reading.the-variants as reading
 use Rattle.table.specs.Reading.{readTable}
 use Rattle.table.specs.WellFormed.{taskOf}
 use Rattle.table.proofs.Accepted.{well-formed}
 use Rattle.rounds.specs.Answer as theory
-use Rattle.rounds.specs.Answer.{Right, Solution}
+use Rattle.rounds.specs.Answer.{Solution}
 use Rattle.rounds.specs.System.{deadline}
 use Rattle.rounds.specs.Vector.{at}
-use Rattle.rounds.specs.Rounds.{analysis, answer}
+use Rattle.rounds.specs.Rounds.{analysis}
 use Rattle.analysis.specs.declared.TaskAnswer.the-variants.{Bound}
-use Rattle.analysis.specs.Rounding.{bounded}
 use Rattle.analysis.specs.Analysing.{ownSystem, verdictOf, analysed}
 use Rattle.analysis.specs.Answering.{answerAt}
-use Rattle.analysis.proofs.Right.{each-right, each-value}
-use Rattle.analysis.proofs.Replies.{bound-says}
+use Rattle.analysis.proofs.Right.{each-value}
+use Rattle.analysis.proofs.Replies.{yes-solves, bound-says}
 use Rattle.protocol.specs.Tasks.{Table, priority, setting}
 use Rattle.protocol.specs.State.{State, isAsleep}
 use Rattle.protocol.specs.Running.{inForce}
@@ -114,18 +112,8 @@ module _ (s : List ℕ) (h : Shape) (accepted : readTable s ≡ reading.Accepted
   solved : verdictOf s h ≡ true → (i : ℕ) → i < h .tasks
       → Solution (ownSystem s h .side i (analysis (ownSystem s h) .vector)) (taskOf s i .deadline) (at (analysis (ownSystem s h) .vector) i)
   solved yes-all i lt =
-      go (answer (ownSystem s h) i) (all-each (λ j. bounded (answer (ownSystem s h) j)) (h .tasks) yes-all i lt)
-      (each-right s h accepted i lt) (each-value s h accepted i lt)
-    where
-      v : List ℕ
-      v = analysis (ownSystem s h) .vector
-
-      go : (x : theory.Answer) → bounded x ≡ true → Right (ownSystem s h .side i v) (deadline (ownSystem s h) i) x
-          → at v i ≡ theory.value (deadline (ownSystem s h) i) x → Solution (ownSystem s h .side i v) (taskOf s i .deadline) (at v i)
-      go (theory.bound t) b r e =
-          subst (λ d. Solution (ownSystem s h .side i v) d (at v i)) (every-at (λ j. taskOf s j .deadline) (h .tasks) i 0 lt)
-          (subst (Solution (ownSystem s h .side i v) (deadline (ownSystem s h) i)) (sym e) (r .solution))
-      go theory.none b r e = absurd (impossible cc)
+      let w = yes-solves s h accepted yes-all i lt in
+      subst (Solution (ownSystem s h .side i (analysis (ownSystem s h) .vector)) (taskOf s i .deadline)) (sym (w .2)) (w .3)
 
   module _ (calls : ℕ → Call) (K : Clock) (O : Obeys s h K (seenUnder inForce T calls)) where
     -- all that the argument rests on
