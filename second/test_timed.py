@@ -13,7 +13,8 @@ from running_slips import eligible_above_only
 from scheduler import set_up
 from table_cases import pick
 from tables import Accepted, read, table_bytes
-from timed import AnyOrder, Run, a_plan, bounds_of, good_table, late, random_run, to_spare, uses_of
+from timed import AnyOrder, NoOrder, Run, a_plan, bounds_of, good_table, late, random_run, some_comings, to_spare
+from timed import uses_of
 
 # Tables in rows: priority, setting, X, C, S, D, T, then uses as resource, N, L.
 AT_BOUNDS = from_rows([(2, 0, 1, 2, 1, 20, 20, (1, 1, 1)), (1, 0, 0, 4, 0, 20, 20, (1, 2, 1))])
@@ -211,6 +212,27 @@ class Bounds(unittest.TestCase):
                     self.assertTrue(any(task.setting for task in table[0]))
                     found += 1
         self.assertGreater(found, 1)
+
+
+class Work(unittest.TestCase):
+    # A run of plans that end with a section or a sleep where they have one: the work after it comes first.
+    def ends_inside(self, rng, table):
+        tasks, uses = table
+        comings = {task.priority: [(ticks, patience, plan[-1:] + plan[:-1]) for ticks, patience, plan
+                                   in some_comings(rng, task, uses, LENGTH)] for task in tasks}
+        return NoOrder(tasks, uses, comings, rng).go()
+
+    def test_no_work_is_late_though_jobs_may_be(self):
+        rng, found = random.Random(8), Counter()
+        for at in range(400):
+            if at % 4 == 0:
+                table, bounds = good_table(rng, at % 8 == 4)
+            for job in self.ends_inside(rng, table).jobs:
+                self.assertLessEqual(job.done_at, job.release + bounds[job.number[0]], table)
+                found.update({"jobs": 1, "work just at the bound": job.done_at == job.release + bounds[job.number[0]],
+                              "over later": to_spare(job, bounds) < 0, "sleeps": job.sleeps})
+        self.assertGreater(found["jobs"], 5000)
+        self.assertTrue(all(found.values()), found)
 
 
 class Assumptions(unittest.TestCase):

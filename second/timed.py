@@ -26,6 +26,7 @@ class Job:
     wake: int | None = None
     sleeps: int = 0
     blocked: int = 0
+    done_at: int = 0
     over: int | None = None
 
     # The call that the job makes at once when it is named, or None while it has ticks to execute first.
@@ -145,11 +146,14 @@ class Run:
 
     # The job that is named executes for a tick; higher ones that do not sleep are blocked meanwhile.
     def tick(self):
+        self.now += 1
+        for job in self.current.values():
+            if job.wake is not None or job.number == self.named:
+                job.done_at = self.now
         if self.named is not None:
             self.current[self.named[0]].done += 1
             for job in self.current.values():
                 job.blocked += job.number[0] > self.named[0] and job.wake is None
-        self.now += 1
 
     # Go on until all have come and are over.
     def go(self):
@@ -171,6 +175,13 @@ class AnyOrder(Run):
                 self.arrive(self.chosen(due))
             else:
                 break
+
+
+# A run in which all calls of an instant come in any order, also a complete after a release.
+class NoOrder(AnyOrder):
+    # Nothing comes first.
+    def at_end(self):
+        return False
 
 
 # The bounds by priority if the verdict is yes, else None.

@@ -1,7 +1,7 @@
--- In time: where the bounds program prints `verdict yes` for a table, and the jobs keep to that table, no job is ever later than the bound in its task's
--- line, and so none misses its deadline. What it is to keep to a table, and to be over in time, is in `timing`'s Statement: releases of a task are T
--- apart; a job whose work of C ticks has ended is completed at that instant; it sleeps through S ticks at most, and stays in a section for L at most.
--- That it makes no more than X sleeps and opens no section more than N times, the scheduler sees to.
+-- In time: where the bounds program prints `verdict yes` for a table, and the jobs keep to that table, the work of no job is ever later than the bound
+-- in its task's line; and where work that ends at an instant is completed at that instant no job is, and none misses its deadline. What it is to keep
+-- to a table, and to be over in time, is in `timing`'s Statement: releases of a task are T apart; a job executes in C ticks at most, sleeps through S
+-- at most, and stays in a section for L at most. That it makes no more than X sleeps and opens no section more than N times, the scheduler sees to.
 use Prim.Native.Nat.{ℕ, suc, _+_, _≤_, _<_}
 use mathlib.Core.Path.{_≡_, ap}
 use mathlib.Core.Bool.{true}
@@ -28,7 +28,7 @@ use Rattle.scheduler.specs.Replies.{replied}
 use Rattle.scheduler.specs.Fresh.{freshOf}
 use Rattle.scheduler.specs.Driven.{Driven}
 use Rattle.scheduler.proofs.Theorems.{driven}
-use Rattle.timing.specs.Statement.{Clock, At, seen, seenUnder, Obeys, OverWithin, InTime, ReleasedInTime}
+use Rattle.timing.specs.Statement.{Clock, At, seen, seenUnder, Obeys, Prompt, DoneInTime, OverWithin, InTime, ReleasedInTime}
 use Rattle.timing.proofs.Instants.{first-rises}
 use Rattle.timing.proofs.Theorems as timing
 use Rattle.timing.proofs.Witness as witness
@@ -58,23 +58,28 @@ module _ {bytes : List ℕ} {h : Shape} {calls : ℕ → Call} {S : ℕ → Sche
   -- ---- no job is late
 
   module _ (K : Clock) (O : Obeys bytes h K (seen calls S R)) (allowance : ℕ) where
-    -- every job of every task that is told a bound is over within it
-    pub no-job-late : InTime bytes h allowance K (seen calls S R)
-    no-job-late = timing.calls-in-time D K O allowance
+    -- the work and the sleep of every job are done within the bound that its task is told: if it is there later, it only waits to be completed
+    pub no-work-late : DoneInTime bytes h allowance K (seen calls S R)
+    no-work-late = timing.calls-done-in-time D K O allowance
 
-    -- so where the verdict is yes no job of any task misses its deadline
-    pub no-deadline-missed : analysed bytes allowance .verdict ≡ true → (i a r : ℕ) → i < h .tasks
-        → seen calls S R .event a ≡ released (taskOf bytes i .priority) → At K a r
-        → OverWithin K (seen calls S R) (taskOf bytes i .priority) a r (taskOf bytes i .deadline)
-    no-deadline-missed yes-all i a r lt e p =
-        let w = each-bound allowance yes-all i lt in
-        let over = no-job-late i a r (w .0) lt (w .1) e p in
-        (over .0, over .1, omega (arith, over .2, first-rises K (suc (r + w .0)) (suc (r + taskOf bytes i .deadline)) (omega (arith, w .3))), over .3)
+    module _ (P : Prompt bytes h K (seen calls S R)) where
+      -- where work that ends at an instant is completed at that instant, every job is over within that bound
+      pub no-job-late : InTime bytes h allowance K (seen calls S R)
+      no-job-late = timing.calls-in-time D K O P allowance
 
-    -- a release T or more after the task's last one is not refused for a job that is still there, unless at the very instant, the bound being T, the
-    -- call that ends the job comes after it
-    pub next-release : ReleasedInTime bytes h allowance calls K (seen calls S R) (λ k. R k .refusal)
-    next-release = timing.calls-released-in-time D K O allowance
+      -- so where the verdict is yes no job of any task misses its deadline
+      pub no-deadline-missed : analysed bytes allowance .verdict ≡ true → (i a r : ℕ) → i < h .tasks
+          → seen calls S R .event a ≡ released (taskOf bytes i .priority) → At K a r
+          → OverWithin K (seen calls S R) (taskOf bytes i .priority) a r (taskOf bytes i .deadline)
+      no-deadline-missed yes-all i a r lt e p =
+          let w = each-bound allowance yes-all i lt in
+          let over = no-job-late i a r (w .0) lt (w .1) e p in
+          (over .0, over .1, omega (arith, over .2, first-rises K (suc (r + w .0)) (suc (r + taskOf bytes i .deadline)) (omega (arith, w .3))), over .3)
+
+      -- and a release T or more after the task's last one is not refused for a job that is still there, unless at the very instant, the bound being T,
+      -- the call that ends the job comes after it
+      pub next-release : ReleasedInTime bytes h allowance calls K (seen calls S R) (λ k. R k .refusal)
+      next-release = timing.calls-released-in-time D K O P allowance
 
 -- ---- not empty, and not of every rule
 
@@ -90,6 +95,8 @@ former-late = late.former-late
 
 -- save where all settings are 0
 pub former-in-time : (bytes : List ℕ) (h : Shape) → readTable bytes ≡ Accepted h → ((i : ℕ) → i < h .tasks → taskOf bytes i .setting ≡ 0)
-    → (calls : ℕ → Call) (K : Clock) → Obeys bytes h K (seenUnder aboveSystem (tableOf (freshOf bytes h)) calls)
-    → (allowance : ℕ) → InTime bytes h allowance K (seenUnder aboveSystem (tableOf (freshOf bytes h)) calls)
+    → (calls : ℕ → Call) (K : Clock) → Obeys bytes h K (seenUnder aboveSystem (tableOf (freshOf bytes h)) calls) → (allowance : ℕ)
+    → DoneInTime bytes h allowance K (seenUnder aboveSystem (tableOf (freshOf bytes h)) calls)
+    × (Prompt bytes h K (seenUnder aboveSystem (tableOf (freshOf bytes h)) calls)
+    → InTime bytes h allowance K (seenUnder aboveSystem (tableOf (freshOf bytes h)) calls))
 former-in-time = timing.former-in-time

@@ -8,21 +8,20 @@ use lib.Dec.{ltb, eqb}
 use borrow.Author.Tests.{ltb-true, lt-ltb, le-leb, eqb-true}
 use Rattle.searches.specs.Searches.{only}
 use Rattle.searches.specs.Indexed.{sumTo}
-use Rattle.searches.proofs.Testing.{impossible, and-true}
+use Rattle.searches.proofs.Testing.{and-true}
 use Rattle.searches.proofs.Searching.{largest-reaches}
 use Rattle.equations.specs.Counting.{ceil}
 use Rattle.equations.specs.Bag.{sumOfLargest}
 use Rattle.equations.specs.Equations as equations
 use Rattle.equations.specs.Equations.{repeats, bag, extra, blocking}
 use Rattle.protocol.specs.Tasks.{priority}
-use Rattle.protocol.specs.Running.{inForce}
-use Rattle.protocol.proofs.Runner.{Runs, runs}
 use Rattle.timing.specs.Statement.{count}
 use Rattle.timing.proofs.Counts.{count-split, count-more, count-none}
 use Rattle.timing.proofs.Bags.{few-pass, blocks-fit}
 use Rattle.timing.proofs.Figures.{user-inside, user-priority, ceiling-most}
-use Rattle.timing.proofs.Given.{Given, during, task, value, view}
-use Rattle.timing.proofs.Pace.{of-live, of-born, of-age}
+use Rattle.timing.proofs.Executing.{runs-executes}
+use Rattle.timing.proofs.Given.{Given, task, value, view}
+use Rattle.timing.proofs.Pace.{of-busy, of-born, of-age}
 use Rattle.timing.proofs.Window.{Window, lowTick, window-end}
 use Rattle.timing.proofs.LowSections.{new-section, above-setting}
 use Rattle.timing.proofs.Touched.{one, opened-after, Touched, rank, rank-below, rank-once}
@@ -68,8 +67,8 @@ module _ {G : Given} {m i a r b : ℕ} (D : Window G m i a r b) where
   touched : {x k : ℕ} (B : Block D x k) → Touched G (view G .user k) (view G .usage k .resource) b (value G i) (B .meet .o)
   touched B =
       let y = B .meet in
-      let R : Runs inForce (G .table) (during G (B .time)) (y .q) = runs (y .runs) in
-      let w = of-live G (y .q) (y .inside) (B .time) (λ z. let f = R .stands in impossible cc) in
+      let runs = runs-executes (G .accepted) (G .calls) (G .clock) (y .q) (B .time) (y .runs) in
+      let w = of-busy G (y .q) (y .inside) (B .time) (omega (arith, runs)) in
       rw (B .user, B .resource) (record {
         time = B .time;
         birth = w .0;

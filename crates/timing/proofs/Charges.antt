@@ -22,14 +22,14 @@ use Rattle.protocol.proofs.Runner.{held-holds, Runs, runs}
 use Rattle.protocol.proofs.Lows.{Awake, awake-or-asleep, unheld}
 use Rattle.protocol.proofs.Counting.{has-until}
 use Rattle.timing.specs.Statement.{count}
-use Rattle.timing.proofs.Counts.{count-split, count-none, find, exchange}
+use Rattle.timing.proofs.Counts.{count-split, find, exchange}
 use Rattle.timing.proofs.Streams.{any-count, new-count}
 use Rattle.timing.proofs.Instants.{first-rises, in-order}
 use Rattle.timing.proofs.Jobs.{holds-at, there-live}
 use Rattle.timing.proofs.Cover.{Blocks, Needs, Covered, higher, sleeper, blocked, cover}
 use Rattle.timing.proofs.Executing.{runs-executes, asleep-rests}
 use Rattle.timing.proofs.Given.{Given, tick, during, exec, rest, task, value, view, There}
-use Rattle.timing.proofs.Given.{works, sleeps, value-is, run-some, period-some}
+use Rattle.timing.proofs.Given.{works, sleeps, value-is, value-room, run-some, period-some}
 use Rattle.timing.proofs.Pace.{Of, exec-live, rest-live, exec-stream, both-stream}
 use Rattle.timing.proofs.Window.{Window, lowTick, window-end}
 
@@ -144,55 +144,60 @@ module _ {G : Given} {m i a r b : ℕ} (D : Window G m i a r b) where
 
   -- ---- the whole window
 
-  -- what counts only while i has a job is no more than it is from any tick of the late job on
-  own-count : (f : ℕ → ℕ) (c : ℕ) → ((t : ℕ) → 0 < f t → during G t .entry i .status ≡ none → ⊥)
-      → ((u n : ℕ) → u + n ≤ m → a < tick G u → count f u n ≤ c) → count f b (value G i) ≤ c
-  own-count f c live most = go (find f b (value G i))
+  -- what counts only while i has a job is no more in V ticks of the window than from the late job's release to m
+  own-part : (f : ℕ → ℕ) → ((t : ℕ) → 0 < f t → during G t .entry i .status ≡ none → ⊥) → count f b (value G i) ≤ count f r (m - r)
+  own-part f live = go (find f b (value G i))
     where
-      from : (x : ℕ) → x < value G i → count f b x ≡ 0 → Phase (b + x) → 0 < f (b + x) → count f b (value G i) ≤ c
+      -- a tick in which the job is there comes after its release
+      later : (t : ℕ) → a < tick G t → r ≤ t
+      later t made = by (decLt t r)
+        where
+          by : Dec (t < r) → r ≤ t
+          by (yes lt) = absurd (omega (arith, D .when .from, first-rises (G .clock) (suc t) r lt))
+          by (no ge) = omega arith
+
+      from : (x : ℕ) → x < value G i → count f b x ≡ 0 → Phase (b + x) → 0 < f (b + x) → count f b (value G i) ≤ count f r (m - r)
       from x l z (inr w) p = absurd (live (b + x) p (w .0))
       from x l z (inl h) p =
-          let whole : x + (value G i - x) ≡ value G i = omega arith in
+          let since = later (b + x) (h .made) in
+          let rest = value G i - x in
+          let more = m - (b + value G i) in
+          let whole : x + rest ≡ value G i = omega arith in
+          let span : (b + x - r) + (rest + more) ≡ m - r = omega (arith, window-end D) in
+          let here : r + (b + x - r) ≡ b + x = omega arith in
           omega (
             arith,
             z,
             ap (count f b) whole,
-            count-split f b x (value G i - x),
-            most (b + x) (value G i - x) (omega (arith, window-end D)) (h .made),
+            count-split f b x rest,
+            ap (count f r) span,
+            count-split f r (b + x - r) (rest + more),
+            count-split f (r + (b + x - r)) rest more,
+            ap (λ y. count f y rest) here,
           )
 
-      go : (count f b (value G i) ≡ 0) ⊎ ((x : ℕ) × (x < value G i) × (0 < f (b + x)) × (count f b x ≡ 0)) → count f b (value G i) ≤ c
+      go : (count f b (value G i) ≡ 0) ⊎ ((x : ℕ) × (x < value G i) × (0 < f (b + x)) × (count f b x ≡ 0)) → count f b (value G i) ≤ count f r (m - r)
       go (inl z) = omega arith
       go (inr (x, l, p, z)) = from x l z (phase (b + x) (omega arith) (omega (arith, window-end D))) p
 
-  -- the late job is there until any later instant of the window
-  there-until : (u k : ℕ) → a < tick G u → tick G u ≤ k → k ≤ tick G m → There G i a k
-  there-until u k lo le hi = has-until (D .late) (omega arith) hi
-
-  -- it executes in fewer than C ticks
-  own-exec : count (exec G i) b (value G i) < task G i .run
-  own-exec =
+  -- since something is left of it, its ticks of work and of sleep are fewer than C + S
+  own-ticks : count (exec G i) b (value G i) + count (rest G i) b (value G i) < task G i .run + task G i .sleep
+  own-ticks =
+      let room = value-room G i (D .inside) .0 in
       let some = run-some G i (D .inside) in
-      let most = own-count (exec G i) (task G i .run - 1) (exec-live G i (D .inside)) (λ u n le lo.
-      omega (
-        arith,
-        works G i a u n (D .inside) lo
-            (there-until u (tick G (u + n)) lo (first-rises (G .clock) (suc u) (suc (u + n)) (omega arith))
-            (first-rises (G .clock) (suc (u + n)) (suc m) (omega arith))),
-      )) in
-      omega arith
-
-  -- it sleeps through S at most
-  own-rest : count (rest G i) b (value G i) ≤ task G i .sleep
-  own-rest =
-      own-count (rest G i) (task G i .sleep) (rest-live G i (D .inside)) (λ u n le lo. go u n le lo (decLt 0 n))
+      let till : r + (m - r) ≡ m = omega (arith, D .due) in
+      let made : a < G .clock .first m = omega (arith, D .when .till, first-rises (G .clock) (suc r) m (omega (arith, D .due))) in
+      let there : There G i a (G .clock .first (r + (m - r))) =
+      rw till (has-until (D .late) made (first-rises (G .clock) m (suc m) (omega arith))) in
+      go (works G i a r (m - r) (D .inside) (D .when .till) there) (sleeps G i a r (m - r) (D .inside) (D .when .till) there)
+      (ℕ-discrete (count (exec G i) r (m - r)) (task G i .run)) (ℕ-discrete (count (rest G i) r (m - r)) (task G i .sleep))
     where
-      go : (u n : ℕ) → u + n ≤ m → a < tick G u → Dec (0 < n) → count (rest G i) u n ≤ task G i .sleep
-      go u n le lo (yes p) =
-          sleeps G i a u n (D .inside) lo
-          (there-until u (G .clock .first (u + n)) lo (first-rises (G .clock) (suc u) (u + n) (omega arith))
-          (first-rises (G .clock) (u + n) (suc m) (omega arith)))
-      go u n le lo (no p) = let none : n ≡ 0 = omega arith in omega (arith, ap (count (rest G i) u) none, count-none (rest G i) u)
+      go : count (exec G i) r (m - r) ≤ task G i .run → count (rest G i) r (m - r) ≤ task G i .sleep
+          → Dec (count (exec G i) r (m - r) ≡ task G i .run) → Dec (count (rest G i) r (m - r) ≡ task G i .sleep)
+          → count (exec G i) b (value G i) + count (rest G i) b (value G i) < task G i .run + task G i .sleep
+      go e z (yes p) (yes q) = absurd (D .left (p, q))
+      go e z (no p) d = omega (arith, own-part (exec G i) (exec-live G i (D .inside)), own-part (rest G i) (rest-live G i (D .inside)))
+      go e z (yes p) (no q) = omega (arith, own-part (exec G i) (exec-live G i (D .inside)), own-part (rest G i) (rest-live G i (D .inside)))
 
   -- what is charged to a higher task is what it adds
   added : (j : ℕ) → j < i → count (charge G i j) b (value G i) ≤ addition (view G) i (G .values) (value G i) j
@@ -245,8 +250,7 @@ module _ {G : Given} {m i a r b : ℕ} (D : Window G m i a r b) where
         sumTo-add (λ x. rest G i (b + x) + exec G i (b + x) + sumTo (λ j. charge G i j (b + x)) i) (λ x. lowTick G i (b + x)) (value G i),
         sumTo-add (λ x. rest G i (b + x) + exec G i (b + x)) (λ x. sumTo (λ j. charge G i j (b + x)) i) (value G i),
         sumTo-add (λ x. rest G i (b + x)) (λ x. exec G i (b + x)) (value G i),
-        own-exec,
-        own-rest,
+        own-ticks,
         all-added,
         value-is G i (D .inside),
       )

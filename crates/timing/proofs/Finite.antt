@@ -20,7 +20,7 @@ use Rattle.table.specs.declared.Use.{Use}
 use Rattle.table.specs.WellFormed.{taskOf, useOf}
 use Rattle.protocol.specs.Trace.{Event, released, opened, closed, ended, Has}
 use Rattle.protocol.proofs.Listed.{is, is-itself, is-so}
-use Rattle.timing.specs.Statement.{Clock, At, callsBy, Seen, executes, rests, count, Obeys, OverWithin}
+use Rattle.timing.specs.Statement.{Clock, At, callsBy, Seen, executes, rests, count, Obeys, Prompt, OverWithin}
 use Rattle.timing.proofs.Instants.{first-rises}
 
 -- ---- instants
@@ -129,9 +129,13 @@ module _ (s : List ℕ) (h : Shape) (counts : List ℕ) (X : Seen) where
   abbrev unlocks : ℕ → Event
   unlocks k = closed (usage k .priority) (usage k .resource)
 
-  -- whether the job of a task has executed in less than C ticks before its last
-  abbrev worksLess : ℕ → Bool
-  worksLess i = below (comes i) (goes i) (executes clock X (task i .priority)) (task i .run)
+  -- whether the job of a task executes in C ticks at most
+  abbrev worksWithin : ℕ → Bool
+  worksWithin i = within (comes i) (goes i) (executes clock X (task i .priority)) (task i .run)
+
+  -- whether it has executed in less than C before each tick in which it is there
+  abbrev endsPromptly : ℕ → Bool
+  endsPromptly i = below (comes i) (goes i) (executes clock X (task i .priority)) (task i .run)
 
   -- whether it sleeps through S at most
   abbrev sleepsWithin : ℕ → Bool
@@ -141,14 +145,15 @@ module _ (s : List ℕ) (h : Shape) (counts : List ℕ) (X : Seen) where
   abbrev holdsWithin : ℕ → Bool
   holdsWithin k = within (locks k) (unlocks k) (executes clock X (usage k .priority)) (usage k .length)
 
-  -- Each task is released once at most, its job ends, and each section is closed; and they keep to their figures.
+  -- Each task is released once at most, its job ends, and each section is closed; they keep to their figures; and work that ends is completed.
   pub record Passes : Type 0 where
     pub come-once : all (λ i. once (comes i)) (h .tasks) ≡ true
     pub all-end : all (λ i. over (comes i) (goes i)) (h .tasks) ≡ true
     pub all-close : all (λ k. over (locks k) (unlocks k)) (h .uses) ≡ true
-    pub working : all worksLess (h .tasks) ≡ true
+    pub working : all worksWithin (h .tasks) ≡ true
     pub sleeping : all sleepsWithin (h .tasks) ≡ true
     pub holding : all holdsWithin (h .uses) ≡ true
+    pub ending : all endsPromptly (h .tasks) ≡ true
 
   -- ---- that they suffice
 
@@ -213,25 +218,32 @@ module _ (s : List ℕ) (h : Shape) (counts : List ℕ) (X : Seen) where
             omega (arith, leb-true (since (lasting e f) c (u + n)) m t, since-counts c u n (clock .first (u + n)) (le-refl (clock .first (u + n))) lo w)
         go (no gt) = absurd (ends (u + n) (omega arith) w)
 
+  -- each job ends
+  job-ends : Passes → (i : ℕ) → i < h .tasks → over (comes i) (goes i) ≡ true
+  job-ends P = all-each (λ i. over (comes i) (goes i)) (h .tasks) (P .all-end)
+
   -- calls that pass keep to the table
   pub keeps : Passes → Obeys s h clock X
   keeps P = record {
     apart = λ i a b t u lt l ea eb ka kb.
         absurd (once-so (comes i) a b u (all-each (λ i. once (comes i)) (h .tasks) (P .come-once) i lt) l ea eb kb);
     works = λ i a r n lt came w.
-        below-so (comes i) (goes i) (job-ends i lt) (executes clock X (task i .priority)) (task i .run) r n
-        (all-each worksLess (h .tasks) (P .working) i lt) (came .till) (record { began = w .began; made = w .made; kept = w .going });
+        within-so (comes i) (goes i) (job-ends P i lt) (executes clock X (task i .priority)) (task i .run) r n
+        (all-each worksWithin (h .tasks) (P .working) i lt) (came .till) (record { began = w .began; made = w .made; kept = w .going });
     sleeps = λ i a r n lt came w.
-        within-so (comes i) (goes i) (job-ends i lt) (rests clock X i) (task i .sleep) r n
+        within-so (comes i) (goes i) (job-ends P i lt) (rests clock X i) (task i .sleep) r n
         (all-each sleepsWithin (h .tasks) (P .sleeping) i lt) (came .till) (record { began = w .began; made = w .made; kept = w .going });
     holds = λ k o r n lt came w.
         let closes = all-each (λ k. over (locks k) (unlocks k)) (h .uses) (P .all-close) k lt in
         within-so (locks k) (unlocks k) closes (executes clock X (usage k .priority)) (usage k .length) r n
         (all-each holdsWithin (h .uses) (P .holding) k lt) (came .till) (record { began = w .began; made = w .made; kept = w .kept });
   }
-    where
-      job-ends : (i : ℕ) → i < h .tasks → over (comes i) (goes i) ≡ true
-      job-ends = all-each (λ i. over (comes i) (goes i)) (h .tasks) (P .all-end)
+
+  -- and complete work that has ended
+  pub prompt : Passes → Prompt s h clock X
+  prompt P i a r n lt came w =
+      below-so (comes i) (goes i) (job-ends P i lt) (executes clock X (task i .priority)) (task i .run) r n
+      (all-each endsPromptly (h .tasks) (P .ending) i lt) (came .till) (record { began = w .began; made = w .made; kept = w .going })
 
 -- ---- jobs that are still there
 

@@ -105,8 +105,8 @@ module _ (G : Given) where
       let e : w .0 + (u - w .0) ≡ u = omega (arith, w .1) in
       (w .0, w .2, omega (arith, w .1), omega (arith, count-split f (w .0) (u - w .0) n, ap (λ x. count f x n) e))
 
-  -- a job that is there in a tick has executed in less than C before it
-  pub works : (i a u n : ℕ) → i < G .table .size → a < tick u → There i a (tick (u + n)) → count (exec i) u n < task i .run
+  -- a job that is there until an instant has executed in C at most
+  pub works : (i a u n : ℕ) → i < G .table .size → a < tick u → There i a (G .clock .first (u + n)) → count (exec i) u n ≤ task i .run
   works i a u n lt l h =
       let same = G .figures .priority-is i lt in
       let w = from-later (exec i) a u n l in
@@ -114,10 +114,11 @@ module _ (G : Given) where
         arith,
         w .3,
         ap (λ p. count (executes (G .clock) sight p) (w .0) (u - w .0 + n)) same,
-        G .obeys .works i a (w .0) (u - w .0 + n) (placed i lt) (w .1) (subst (λ p. Has ev p a (tick (w .0 + (u - w .0 + n)))) same (rw (w .2) h)),
+        G .obeys .works i a (w .0) (u - w .0 + n) (placed i lt) (w .1)
+            (subst (λ p. Has ev p a (G .clock .first (w .0 + (u - w .0 + n)))) same (rw (w .2) h)),
       )
 
-  -- it has slept through S at most
+  -- has slept through S at most
   pub sleeps : (i a u n : ℕ) → i < G .table .size → a < tick u → There i a (G .clock .first (u + n)) → count (rest i) u n ≤ task i .sleep
   sleeps i a u n lt l h =
       let same = G .figures .priority-is i lt in

@@ -31,8 +31,8 @@ use Rattle.protocol.proofs.Former.{aboveSystem}
 use Rattle.scheduler.specs.View.{tableOf}
 use Rattle.scheduler.specs.Fresh.{timesOf, freshOf}
 use Rattle.cases.specs.Tables.{task, usage, end}
-use Rattle.timing.specs.Statement.{Clock, At, callsBy, Seen, seenUnder, Obeys, InTime}
-use Rattle.timing.proofs.Finite.{clockOf, lasts, since, Passes, keeps, not-over}
+use Rattle.timing.specs.Statement.{Clock, At, callsBy, Seen, seenUnder, executes, count, Obeys, Prompt, DoneInTime, InTime}
+use Rattle.timing.proofs.Finite.{clockOf, lasts, since, Passes, keeps, prompt, not-over}
 
 -- Task 3, with the setting 1, runs for 1 and sleeps once, through 3. Tasks 2 and 1 run for 1 and 2, and have a section of 1 of the resource 1 each.
 -- The deadline of task 2 is 4.
@@ -60,29 +60,34 @@ clock = clockOf counts
 abbrev pub saw : Seen
 saw = seenUnder aboveSystem (tableOf (freshOf bytes shape)) (inTurn calls)
 
--- The table is accepted, its verdict is yes with the bounds 4, 3 and 8, and the jobs keep to it. Job 2 comes at the instant 0, by the call 4, has a
--- deadline of 4, and is there in the tick 5; so not every job is over within its bound.
+-- The table is accepted, its verdict is yes with the bounds 4, 3 and 8, and the jobs keep to it and are completed at once. Job 2 comes at the instant
+-- 0, by the call 4, has a deadline of 4, and is there in the tick 5, before which it didn't execute; so not every job is over within its bound, and
+-- not even its work is done.
 pub record Late : Type 0 where
   pub accepted : readTable bytes ≡ Accepted shape
   pub verdict : analysed bytes 100000 .verdict ≡ true
   pub told : (answerAt (analysed bytes 100000) 0 ≡ Bound 4) × (answerAt (analysed bytes 100000) 1 ≡ Bound 3)
       × (answerAt (analysed bytes 100000) 2 ≡ Bound 8)
-  pub obeyed : Obeys bytes shape clock saw
+  pub obeyed : Obeys bytes shape clock saw × Prompt bytes shape clock saw
   pub comes : At clock 4 0
   pub deadline : taskOf bytes 1 .deadline ≡ 4
   pub there : Has (saw .event) 2 4 (callsBy clock 5)
   pub late : InTime bytes shape 100000 clock saw → ⊥
+  pub work-late : DoneInTime bytes shape 100000 clock saw → ⊥
 
--- what the checker computes: the answers, the deadline, the tests, what the call 4 brings about and what doesn't follow, how many calls there are
+-- what the checker computes: the answers, the deadline, the tests, what the call 4 brings about and what doesn't follow, how many calls there are, and
+-- the work of job 2 before the tick 5
 computed : ((readTable bytes ≡ Accepted shape) × (analysed bytes 100000 .verdict ≡ true) × (answerAt (analysed bytes 100000) 0 ≡ Bound 4)
     × (answerAt (analysed bytes 100000) 1 ≡ Bound 3) × (answerAt (analysed bytes 100000) 2 ≡ Bound 8) × (taskOf bytes 1 .deadline ≡ 4))
     × Passes bytes shape counts saw
     × ((saw .event 4 ≡ released 2) × (never (saw .event) (ended 2) 4 (callsBy clock 5) ≡ true))
     × ((callsBy clock 0 ≡ 5) × (callsBy clock 5 ≡ 8))
+    × ((count (executes clock saw (taskOf bytes 1 .priority)) 0 5 ≡ 0) × (taskOf bytes 1 .run ≡ 1))
 unfolding stepAt readFrom endStep taskStep useStep taskRule useRule sumAfter placeFrom wordAt sumTo every answer analysis beforeLast lastFrom turns turn solve climb bagTo sumOfLargest ceiling extra blocking additions allowed analysedAs after step fit used named machine.running machine.systemPriority machine.top machine.ceiling first best all some largest has without timesOf lasts since
 computed = (
   (refl, refl, refl, refl, refl, refl),
-  record { come-once = refl; all-end = refl; all-close = refl; working = refl; sleeping = refl; holding = refl },
+  record { come-once = refl; all-end = refl; all-close = refl; working = refl; sleeping = refl; holding = refl; ending = refl },
+  (refl, refl),
   (refl, refl),
   (refl, refl),
 )
@@ -97,7 +102,7 @@ former-late =
       accepted = c .0 .0;
       verdict = c .0 .1;
       told = (c .0 .2, c .0 .3, c .0 .4);
-      obeyed = keeps bytes shape counts saw (c .1);
+      obeyed = (keeps bytes shape counts saw (c .1), prompt bytes shape counts saw (c .1));
       comes = comes;
       deadline = c .0 .5;
       there = there;
@@ -105,4 +110,5 @@ former-late =
         arith,
         not-over clock saw 2 4 0 3 5 there (all-in-time 1 4 0 3 (omega arith) (c .0 .3) (c .2 .0) comes),
       );
+      work-late = λ all-done. omega (arith, c .4, all-done 1 4 0 3 5 (omega arith) (c .0 .3) comes (omega arith) there .0);
     }

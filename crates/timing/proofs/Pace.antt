@@ -1,30 +1,30 @@
 -- The jobs of a task as a stream, as long as each was over in time.
-use Prim.Native.Nat.{ℕ, suc, _+_, _≤_, _<_}
-use mathlib.Core.Path.{_≡_, ap, subst}
+use Prim.Native.Nat.{ℕ, suc, _+_, _-_, _≤_, _<_}
+use mathlib.Core.Path.{_≡_, sym, ap, subst}
 use mathlib.Core.Logic.{_⊎_, inl, inr, ⊎-elim}
 use native.Mathlib.Omega.{arith}
 use native.Mathlib.Decide.{decLe, decLt}
 use Rattle.searches.proofs.Testing.{impossible}
 use Rattle.searches.proofs.Sums.{sumTo-add}
-use Rattle.protocol.specs.Tasks.{priority}
 use Rattle.protocol.specs.State.{none}
 use Rattle.protocol.specs.Running.{inForce}
-use Rattle.protocol.specs.Trace.{released}
 use Rattle.protocol.proofs.Invariant.{Unfinished}
 use Rattle.protocol.proofs.Runner.{Runs, runs}
-use Rattle.protocol.proofs.Counting.{has-until}
 use Rattle.timing.specs.Statement.{At, count}
 use Rattle.timing.proofs.Counts.{count-more}
 use Rattle.timing.proofs.Streams.{Stream}
 use Rattle.timing.proofs.Instants.{first-rises, instant, in-order}
 use Rattle.timing.proofs.Jobs.{live-there, no-second}
 use Rattle.timing.proofs.Executing.{executes-once, rests-once, executes-runs, rests-asleep}
-use Rattle.timing.proofs.Given.{Given, ev, tick, during, exec, rest, task, value, There, apart, works, sleeps, value-room, period-some}
+use Rattle.timing.proofs.Given.{Given, tick, during, exec, rest, task, value, There, apart, works, sleeps, value-room, period-some}
 
--- Each job that was due before the instant m was over in time.
+-- Before the tick r + n the job of i that was released at the instant r executed in all its C ticks, and slept through all its S.
+abbrev pub Finished : Given → ℕ → ℕ → ℕ → Type 0
+Finished G i r n = (count (exec G i) r n ≡ task G i .run) × (count (rest G i) r n ≡ task G i .sleep)
+
+-- Of each job that is there in a tick below m, and was due by then, nothing is left.
 abbrev pub Before : Given → ℕ → Type 0
-Before G m = (i a r : ℕ) → i < G .table .size → ev G a ≡ released (priority (G .table) i) → At (G .clock) a r → r + value G i < m
-    → There G i a (tick G (r + value G i)) → ⊥
+Before G m = (i a r n : ℕ) → i < G .table .size → At (G .clock) a r → value G i ≤ n → r + n < m → There G i a (tick G (r + n)) → Finished G i r n
 
 module _ (G : Given) (i : ℕ) (lt : i < G .table .size) where
   -- ---- who executes or rests has a job
@@ -58,16 +58,20 @@ module _ (G : Given) (i : ℕ) (lt : i < G .table .size) where
 
   -- ---- the job in a tick
 
-  -- The job of the task at i that was released at the instant ρ is there in the tick t.
+  -- The job of the task at i that was released at the instant ρ executes or rests in the tick t.
   abbrev pub Of : ℕ → ℕ → Type 0
-  Of ρ t = (a : ℕ) × At (G .clock) a ρ × There G i a (tick G t)
+  Of ρ t = (a : ℕ) × At (G .clock) a ρ × There G i a (tick G t) × (0 < exec G i t + rest G i t)
 
-  -- an unfinished job is
-  pub of-live : (t : ℕ) → Unfinished (during G t .entry i) → (ρ : ℕ) × Of ρ t
-  of-live t u =
-      let w = live-there (G .accepted) (G .calls) i (tick G t) lt u in
+  -- who executes or rests has such a job
+  pub of-busy : (t : ℕ) → 0 < exec G i t + rest G i t → (ρ : ℕ) × Of ρ t
+  of-busy t h =
+      let w = live-there (G .accepted) (G .calls) i (tick G t) lt (live (decLt 0 (exec G i t))) in
       let d = instant (G .clock) (w .0) (suc t) (w .1 .made) in
-      (d .0, (w .0, d .2, w .1))
+      (d .0, (w .0, d .2, w .1, h))
+    where
+      live : Dec (0 < exec G i t) → Unfinished (during G t .entry i)
+      live (yes p) = exec-live t p
+      live (no p) = rest-live t (omega arith)
 
   -- it was released before
   pub of-born : (ρ t : ℕ) → Of ρ t → ρ ≤ t
@@ -106,44 +110,49 @@ module _ (G : Given) (i : ℕ) (lt : i < G .table .size) where
 
   -- ---- its ticks
 
-  -- it executes in C of them at most
-  exec-budget : (ρ u n : ℕ) → Of ρ u → Of ρ (u + n) → count (exec G i) u (suc n) ≤ task G i .run
-  exec-budget ρ u n x y =
-      omega (
-        arith,
-        of-same ρ u (u + n) (omega arith) x y,
-        count-more (exec G i) u n,
-        executes-once (G .accepted) (G .calls) (G .clock) i (u + n),
-        works G i (y .0) u n lt (omega (arith, x .2 .made, of-same ρ u (u + n) (omega arith) x y)) (y .2),
-      )
-
-  -- and rests in S at most
-  rest-budget : (ρ u n : ℕ) → Of ρ u → Of ρ (u + n) → count (rest G i) u (suc n) ≤ task G i .sleep
-  rest-budget ρ u n x y =
+  -- up to a tick in which it is there it executes in C at most, and rests in S
+  spent : (a u n : ℕ) → a < tick G u → There G i a (tick G (u + n))
+      → (count (exec G i) u (suc n) ≤ task G i .run) × (count (rest G i) u (suc n) ≤ task G i .sleep)
+  spent a u n l h =
       let next : tick G (u + n) ≡ G .clock .first (u + suc n) = ap (G .clock .first) (omega arith) in
-      sleeps G i (y .0) u (suc n) lt (omega (arith, x .2 .made, of-same ρ u (u + n) (omega arith) x y)) (subst (There G i (y .0)) next (y .2))
+      let there = subst (There G i a) next h in
+      (works G i a u (suc n) lt l there, sleeps G i a u (suc n) lt l there)
+
+  -- so from one of its ticks to another
+  budget : (ρ u n : ℕ) → Of ρ u → Of ρ (u + n) → (count (exec G i) u (suc n) ≤ task G i .run) × (count (rest G i) u (suc n) ≤ task G i .sleep)
+  budget ρ u n x y = spent (y .0) u n (omega (arith, x .2 .made, of-same ρ u (u + n) (omega arith) x y)) (y .2)
 
   module _ {m : ℕ} (B : Before G m) where
-    -- it is not due yet
+    -- it is not due yet: of one that is, nothing is left
     pub of-age : (ρ t : ℕ) → t < m → Of ρ t → t < ρ + value G i
     of-age ρ t l o = go (decLt t (ρ + value G i))
       where
+        left : (n : ℕ) → ρ + n ≡ t → value G i ≤ n → ⊥
+        left n e due =
+            let there = subst (λ x. There G i (o .0) (tick G x)) (sym e) (o .2) in
+            omega (
+              arith,
+              o .3,
+              B i (o .0) ρ n lt (o .1) due (omega arith) there,
+              spent (o .0) ρ n (o .1 .till) there,
+              count-more (exec G i) ρ n,
+              count-more (rest G i) ρ n,
+              ap (λ x. exec G i x + rest G i x) e,
+            )
+
         go : Dec (t < ρ + value G i) → t < ρ + value G i
         go (yes h) = h
-        go (no h) =
-            absurd (B i (o .0) ρ lt (o .2 .began) (o .1) (omega arith)
-            (has-until (o .2) (omega (arith, o .1 .till, first-rises (G .clock) (suc ρ) (suc (ρ + value G i)) (omega arith)))
-            (first-rises (G .clock) (suc (ρ + value G i)) (suc t) (omega arith))))
+        go (no h) = absurd (left (t - ρ) (omega (arith, of-born ρ t o)) (omega arith))
 
     -- the ticks in which it executes
     pub exec-stream : Stream (exec G i) Of (task G i .period) (task G i .run) (value G i) m
     exec-stream = record {
       once = executes-once (G .accepted) (G .calls) (G .clock) i;
-      some = λ t l h. of-live t (exec-live t h);
+      some = λ t l h. of-busy t (omega arith);
       born = of-born;
       age = of-age;
       gap = of-gap;
-      budget = λ ρ u n l. exec-budget ρ u n;
+      budget = λ ρ u n l x y. budget ρ u n x y .0;
       room = (omega (arith, value-room G i lt .0), value-room G i lt .1);
     }
 
@@ -151,20 +160,10 @@ module _ (G : Given) (i : ℕ) (lt : i < G .table .size) where
     pub both-stream : Stream (λ t. exec G i t + rest G i t) Of (task G i .period) (task G i .run + task G i .sleep) (value G i) m
     both-stream = record {
       once = both-once;
-      some = λ t l h. of-live t (live t h (decLt 0 (exec G i t)));
+      some = λ t l h. of-busy t h;
       born = of-born;
       age = of-age;
       gap = of-gap;
-      budget = λ ρ u n l x y.
-          omega (
-            arith,
-            sumTo-add (λ x. exec G i (u + x)) (λ x. rest G i (u + x)) (suc n),
-            exec-budget ρ u n x y,
-            rest-budget ρ u n x y,
-          );
+      budget = λ ρ u n l x y. omega (arith, sumTo-add (λ x. exec G i (u + x)) (λ x. rest G i (u + x)) (suc n), budget ρ u n x y);
       room = value-room G i lt;
     }
-      where
-        live : (t : ℕ) → 0 < exec G i t + rest G i t → Dec (0 < exec G i t) → Unfinished (during G t .entry i)
-        live t h (yes p) = exec-live t p
-        live t h (no p) = rest-live t (omega arith)

@@ -1,5 +1,5 @@
 -- What is proved: every job is over in time, and so a release a period after the last one finds its task's job gone.
-use Prim.Native.Nat.{ℕ, zero, suc, _+_, _<_}
+use Prim.Native.Nat.{ℕ, zero, suc, _+_, _-_, _≤_, _<_}
 use mathlib.Core.Path.{_≡_, refl, sym, ap, subst, fun-ext, _∙_}
 use mathlib.Core.Bool.{Bool, true, false, not, _&&_}
 use mathlib.Core.List.{List}
@@ -29,7 +29,7 @@ use Rattle.protocol.specs.State.{State, isAsleep}
 use Rattle.protocol.specs.Running.{inForce}
 use Rattle.protocol.specs.Checks.{Call, ruling}
 use Rattle.protocol.specs.Step.{step}
-use Rattle.protocol.specs.Trace.{Event, released, ended, outcome, after}
+use Rattle.protocol.specs.Trace.{Event, released, ended, outcome, after, event, Has}
 use Rattle.protocol.proofs.Listed.{is, is-so, never, never-so}
 use Rattle.protocol.proofs.Former.{aboveSystem, ruling-same, step-same}
 use Rattle.scheduler.specs.declared.Scheduler.{Scheduler}
@@ -40,12 +40,13 @@ use Rattle.scheduler.specs.Fresh.{freshOf}
 use Rattle.scheduler.specs.Driven.{Driven}
 use Rattle.scheduler.proofs.Beginning.{byte-of, fresh-accepted}
 use Rattle.scheduler.proofs.Theorems.{state-is, event-is, running-is, refusal-is}
-use Rattle.timing.specs.Statement.{Clock, At, seen, priorityIn, seenUnder, Obeys, OverWithin, InTime, ReleasedAgain, AtTheInstant, ReleasedInTime}
+use Rattle.timing.specs.Statement.{Clock, At, callsBy, priorityIn, seen, seenUnder, executes, count, Obeys, Prompt}
+use Rattle.timing.specs.Statement.{DoneInTime, OverWithin, InTime, ReleasedAgain, AtTheInstant, ReleasedInTime}
 use Rattle.timing.proofs.Instants.{first-rises, instant}
 use Rattle.timing.proofs.Jobs.{before-release}
 use Rattle.timing.proofs.Figures.{own-figures}
-use Rattle.timing.proofs.Given.{Given, ev, tick, value, There, sight, value-room}
-use Rattle.timing.proofs.Pace.{Before}
+use Rattle.timing.proofs.Given.{Given, ev, tick, exec, rest, task, value, There, sight, value-room}
+use Rattle.timing.proofs.Pace.{Finished, Before}
 use Rattle.timing.proofs.Start.{begin}
 use Rattle.timing.proofs.Window.{Window}
 use Rattle.timing.proofs.Charges.{no-window}
@@ -54,34 +55,46 @@ use Rattle.timing.proofs.Releases.{refused-at}
 
 -- ---- no job is late
 
-module _ (G : Given) where
-  -- of no instant is a job the first to be late
-  none-late : (m : ℕ) → Before G m
-  none-late zero i a r lt e h l x = absurd (omega arith)
-  none-late (suc m) i a r lt e h l x = go (none-late m) (ℕ-discrete (r + value G i) m)
-    where
-      go : Before G m → Dec (r + value G i ≡ m) → ⊥
-      go more (no ne) = more i a r lt e h (omega arith) x
-      go more (yes q) =
-          let start = begin G i lt a (before-release (G .accepted) (G .calls) a i lt e) in
-          let w = instant (G .clock) (start .index) (suc r) (omega (arith, start .early, h .till)) in
-          let D : Window G m i a r (w .0) =
-          record {
-            before = more;
-            inside = lt;
-            release = e;
-            when = h;
-            due = q;
-            late = subst (λ y. There G i a (tick G y)) q x;
-            start = start;
-            from = w .2;
-          } in
-          no-window D (low-bounded D)
+-- of no tick is a job the first that was due and of which something is left
+none-late : (G : Given) (m : ℕ) → Before G m
+none-late G zero i a r n lt h due l x = absurd (omega arith)
+none-late G (suc m) i a r n lt h due l x =
+    go (none-late G m) (ℕ-discrete (r + n) m) (ℕ-discrete (count (exec G i) r n) (task G i .run)) (ℕ-discrete (count (rest G i) r n) (task G i .sleep))
+  where
+    none : r + n ≡ m → Before G m → (Finished G i r n → ⊥) → ⊥
+    none q more left =
+        let start = begin G i lt a (before-release (G .accepted) (G .calls) a i lt (x .began)) in
+        let w = instant (G .clock) (start .index) (suc r) (omega (arith, start .early, h .till)) in
+        let length : m - r ≡ n = omega arith in
+        let D : Window G m i a r (w .0) =
+        record {
+          before = more;
+          inside = lt;
+          release = x .began;
+          when = h;
+          due = omega arith;
+          left = λ f. left (subst (Finished G i r) length f);
+          late = subst (λ y. There G i a (tick G y)) q x;
+          start = start;
+          from = w .2;
+        } in
+        no-window D (low-bounded D)
 
--- so each is over in time: a call up to then ended it
-over-in-time : (G : Given) (i a r : ℕ) → i < G .table .size → ev G a ≡ released (priority (G .table) i) → At (G .clock) a r
+    go : Before G m → Dec (r + n ≡ m) → Dec (count (exec G i) r n ≡ task G i .run) → Dec (count (rest G i) r n ≡ task G i .sleep) → Finished G i r n
+    go more (no ne) d e = more i a r n lt h due (omega arith) x
+    go more (yes q) (yes d) (yes e) = (d, e)
+    go more (yes q) (no d) e = absurd (none q more (λ f. d (f .0)))
+    go more (yes q) (yes d) (no e) = absurd (none q more (λ f. e (f .1)))
+
+-- so of a job that is there in a tick from its due one on nothing is left
+done-in-time : (G : Given) (i a r n : ℕ) → i < G .table .size → At (G .clock) a r → value G i ≤ n → There G i a (tick G (r + n)) → Finished G i r n
+done-in-time G i a r n lt h due x = none-late G (suc (r + n)) i a r n lt h due (omega arith) x
+
+-- and where work that ends is completed each is over in time: a call up to then ended it
+over-in-time : (G : Given) → Prompt (G .bytes) (G .shape) (G .clock) (sight G) → (i a r : ℕ) → i < G .table .size
+    → ev G a ≡ released (priority (G .table) i) → At (G .clock) a r
     → OverWithin (G .clock) (sight G) (priority (G .table) i) a r (value G i)
-over-in-time G i a r lt e h = go (never (ev G) end a due) refl
+over-in-time G P i a r lt e h = go (never (ev G) end a due) refl
   where
     end : Event
     end = ended (priority (G .table) i)
@@ -92,10 +105,19 @@ over-in-time G i a r lt e h = go (never (ev G) end a due) refl
     made : a < due
     made = omega (arith, h .till, first-rises (G .clock) (suc r) (suc (r + value G i)) (omega arith))
 
+    -- it would have executed in less than C, and in C
+    there-not : There G i a due → ⊥
+    there-not x =
+        let same = G .figures .priority-is i lt in
+        omega (
+          arith,
+          done-in-time G i a r (value G i) lt h (omega arith) x .0,
+          ap (λ p. count (executes (G .clock) (sight G) p) r (value G i)) same,
+          P i a r (value G i) (omega (arith, lt, G .figures .size)) h (subst (λ p. Has (ev G) p a due) same x),
+        )
+
     go : (b : Bool) → never (ev G) end a due ≡ b → OverWithin (G .clock) (sight G) (priority (G .table) i) a r (value G i)
-    go true t =
-        let late : There G i a due = record { began = e; made = made; going = never-so (ev G) end a due t } in
-        absurd (none-late G (suc (r + value G i)) i a r lt e h (omega arith) late)
+    go true t = absurd (there-not (record { began = e; made = made; going = never-so (ev G) end a due t }))
     go false t =
         let w = all-fails (λ j. not (ltb a j && is (ev G j) end)) due t in
         let c = and-true (ltb a (w .0)) (is (ev G (w .0)) end) (not-false _ (w .2)) in
@@ -145,25 +167,34 @@ module _ (s : List ℕ) (h : Shape) (accepted : readTable s ≡ reading.Accepted
     same : (i : ℕ) → i < h .tasks → priority T i ≡ taskOf s i .priority
     same = own-figures s h (well-formed s h accepted) .priority-is
 
-    -- every job is over within the bound that its task is told
-    pub in-time : (allowance : ℕ) → InTime s h allowance K (seenUnder inForce T calls)
-    in-time allowance i a r v lt told e p =
+    -- in a tick from the bound on in which a job is there nothing is left of it
+    pub work-in-time : (allowance : ℕ) → DoneInTime s h allowance K (seenUnder inForce T calls)
+    work-in-time allowance i a r v n lt told p due x =
         let w = told-value allowance i v lt told in
-        subst (λ q. OverWithin K (seenUnder inForce T calls) q a r v) (same i lt)
-        (subst (OverWithin K (seenUnder inForce T calls) (priority T i) a r) (w .1)
-        (over-in-time (given (w .0)) i a r lt (e ∙ sym (ap released (same i lt))) p))
+        let there = subst (λ q. Has (event inForce T calls) q a (callsBy K (r + n))) (sym (same i lt)) x in
+        let f = done-in-time (given (w .0)) i a r n lt p (omega (arith, w .1)) there in
+        (ap (λ q. count (executes K (seenUnder inForce T calls) q) r n) (sym (same i lt)) ∙ f .0, f .1)
 
-    -- and a release T or more after the last one is refused with 12 only where the job's end is called later at that instant
-    pub released-in-time : (allowance : ℕ)
-        → ReleasedInTime s h allowance calls K (seenUnder inForce T calls) (λ k. step inForce T (after inForce T calls k) (calls k) .refusal)
-    released-in-time allowance i a b t u v lt told again refused =
-        let w = told-value allowance i v lt told in
-        subst (λ q. AtTheInstant K (seenUnder inForce T calls) q b t u v (taskOf s i .period)) (same i lt)
-        (refused-at (fresh-accepted s h (well-formed s h accepted)) calls K lt
-        (subst (λ q. ReleasedAgain calls K (seenUnder inForce T calls) q a b t u (taskOf s i .period)) (sym (same i lt)) again) refused
-        (omega (arith, w .1, value-room (given (w .0)) i lt .1))
-        (subst (λ q. OverWithin K (seenUnder inForce T calls) q a t v) (sym (same i lt))
-        (in-time allowance i a t v lt told (again .last) (again .last-at))))
+    module _ (P : Prompt s h K (seenUnder inForce T calls)) where
+      -- where work that ends is completed every job is over within the bound that its task is told
+      pub in-time : (allowance : ℕ) → InTime s h allowance K (seenUnder inForce T calls)
+      in-time allowance i a r v lt told e p =
+          let w = told-value allowance i v lt told in
+          subst (λ q. OverWithin K (seenUnder inForce T calls) q a r v) (same i lt)
+          (subst (OverWithin K (seenUnder inForce T calls) (priority T i) a r) (w .1)
+          (over-in-time (given (w .0)) P i a r lt (e ∙ sym (ap released (same i lt))) p))
+
+      -- and a release T or more after the last one is refused with 12 only where the job's end is called later at that instant
+      pub released-in-time : (allowance : ℕ)
+          → ReleasedInTime s h allowance calls K (seenUnder inForce T calls) (λ k. step inForce T (after inForce T calls k) (calls k) .refusal)
+      released-in-time allowance i a b t u v lt told again refused =
+          let w = told-value allowance i v lt told in
+          subst (λ q. AtTheInstant K (seenUnder inForce T calls) q b t u v (taskOf s i .period)) (same i lt)
+          (refused-at (fresh-accepted s h (well-formed s h accepted)) calls K lt
+          (subst (λ q. ReleasedAgain calls K (seenUnder inForce T calls) q a b t u (taskOf s i .period)) (sym (same i lt)) again) refused
+          (omega (arith, w .1, value-room (given (w .0)) i lt .1))
+          (subst (λ q. OverWithin K (seenUnder inForce T calls) q a t v) (sym (same i lt))
+          (in-time allowance i a t v lt told (again .last) (again .last-at))))
 
 -- ---- the scheduler's own calls
 
@@ -177,17 +208,24 @@ module _ {s : List ℕ} {h : Shape} {calls : ℕ → Call} {S : ℕ → Schedule
       λ x. record { event = events x; named = names x; asleep = sleepers x }
 
   module _ (K : Clock) (O : Obeys s h K (seen calls S R)) where
-    -- every job is over within the bound that its task is told
-    pub calls-in-time : (allowance : ℕ) → InTime s h allowance K (seen calls S R)
-    calls-in-time allowance =
-        subst (InTime s h allowance K) (sym seen-is) (in-time s h (D .reads) calls K (subst (Obeys s h K) seen-is O) allowance)
+    -- in a tick from the bound on in which a job is there nothing is left of it
+    pub calls-done-in-time : (allowance : ℕ) → DoneInTime s h allowance K (seen calls S R)
+    calls-done-in-time allowance =
+        subst (DoneInTime s h allowance K) (sym seen-is) (work-in-time s h (D .reads) calls K (subst (Obeys s h K) seen-is O) allowance)
 
-    -- and a release T or more after the last one is refused with 12 only where the job's end is called later at that instant
-    pub calls-released-in-time : (allowance : ℕ) → ReleasedInTime s h allowance calls K (seen calls S R) (λ k. R k .refusal)
-    calls-released-in-time allowance =
-        subst (λ X. ReleasedInTime s h allowance calls K X (λ k. R k .refusal)) (sym seen-is)
-        (subst (ReleasedInTime s h allowance calls K (seenUnder inForce (tableOf (freshOf s h)) calls)) (sym (fun-ext (refusal-is D)))
-        (released-in-time s h (D .reads) calls K (subst (Obeys s h K) seen-is O) allowance))
+    module _ (P : Prompt s h K (seen calls S R)) where
+      -- where work that ends is completed every job is over within the bound that its task is told
+      pub calls-in-time : (allowance : ℕ) → InTime s h allowance K (seen calls S R)
+      calls-in-time allowance =
+          subst (InTime s h allowance K) (sym seen-is)
+          (in-time s h (D .reads) calls K (subst (Obeys s h K) seen-is O) (subst (Prompt s h K) seen-is P) allowance)
+
+      -- and a release T or more after the last one is refused with 12 only where the job's end is called later at that instant
+      pub calls-released-in-time : (allowance : ℕ) → ReleasedInTime s h allowance calls K (seen calls S R) (λ k. R k .refusal)
+      calls-released-in-time allowance =
+          subst (λ X. ReleasedInTime s h allowance calls K X (λ k. R k .refusal)) (sym seen-is)
+          (subst (ReleasedInTime s h allowance calls K (seenUnder inForce (tableOf (freshOf s h)) calls)) (sym (fun-ext (refusal-is D)))
+          (released-in-time s h (D .reads) calls K (subst (Obeys s h K) seen-is O) (subst (Prompt s h K) seen-is P) allowance))
 
 -- ---- the former rule
 
@@ -222,8 +260,12 @@ module _ (s : List ℕ) (h : Shape) (accepted : readTable s ≡ reading.Accepted
         let sleepers = fun-ext (λ k. fun-ext (λ i. ap (λ x. isAsleep (x .entry i .status)) (states-same k))) in
         λ x. record { event = events x; named = names x; asleep = sleepers x }
 
-    -- so where all settings are 0 every job was over in time under the former rule, too
+    -- so where all settings are 0 it was the same under the former rule
     pub former-in-time : (K : Clock) → Obeys s h K (seenUnder aboveSystem bare calls) → (allowance : ℕ)
-        → InTime s h allowance K (seenUnder aboveSystem bare calls)
+        → DoneInTime s h allowance K (seenUnder aboveSystem bare calls)
+        × (Prompt s h K (seenUnder aboveSystem bare calls) → InTime s h allowance K (seenUnder aboveSystem bare calls))
     former-in-time K O allowance =
-        subst (InTime s h allowance K) former-seen (in-time s h accepted calls K (subst (Obeys s h K) (sym former-seen) O) allowance)
+        let obeys = subst (Obeys s h K) (sym former-seen) O in (
+          subst (DoneInTime s h allowance K) former-seen (work-in-time s h accepted calls K obeys allowance),
+          λ P. subst (InTime s h allowance K) former-seen (in-time s h accepted calls K obeys (subst (Prompt s h K) (sym former-seen) P) allowance),
+        )

@@ -1,5 +1,5 @@
 -- The window of a job that is late, and the ticks of it in which a lower task runs.
-use Prim.Native.Nat.{ℕ, _+_, _≤_, _<_}
+use Prim.Native.Nat.{ℕ, _+_, _-_, _≤_, _<_}
 use mathlib.Core.Path.{_≡_}
 use mathlib.Core.Bool.{Bool, false, not, _&&_}
 use native.Mathlib.Omega.{arith}
@@ -12,17 +12,18 @@ use Rattle.protocol.specs.Trace.{released}
 use Rattle.timing.specs.Statement.{At}
 use Rattle.timing.proofs.Instants.{in-order}
 use Rattle.timing.proofs.Given.{Given, ev, tick, during, runner, value, There}
-use Rattle.timing.proofs.Pace.{Before}
+use Rattle.timing.proofs.Pace.{Finished, Before}
 use Rattle.timing.proofs.Start.{Start}
 
--- The job of i that the call a released at the instant r is there in the tick m = r + V, the first in which any job is late; its window begins at the
--- instant b.
+-- The job of i that the call a released at the instant r is there in the tick m, was due by then, and something is left of it; m is the first tick in
+-- which this is so of any job. Its window begins at the instant b.
 pub record Window (G : Given) (m i a r b : ℕ) : Type 0 where
   pub before : Before G m
   pub inside : i < G .table .size
   pub release : ev G a ≡ released (priority (G .table) i)
   pub when : At (G .clock) a r
-  pub due : r + value G i ≡ m
+  pub due : r + value G i ≤ m
+  pub left : Finished G i r (m - r) → ⊥
   pub late : There G i a (tick G m)
   pub start : Start G i a
   pub from : At (G .clock) (start .index) b

@@ -31,9 +31,9 @@ use Rattle.scheduler.specs.Replies.{replied}
 use Rattle.scheduler.specs.Fresh.{timesOf, freshOf}
 use Rattle.scheduler.proofs.Theorems.{driven, drives}
 use Rattle.cases.specs.Tables.{task, usage, end}
-use Rattle.timing.specs.Statement.{Clock, At, callsBy, Seen, seen, seenUnder, Obeys, OverWithin}
+use Rattle.timing.specs.Statement.{Clock, At, callsBy, Seen, seen, seenUnder, Obeys, Prompt, OverWithin}
 use Rattle.timing.proofs.Theorems.{seen-is}
-use Rattle.timing.proofs.Finite.{clockOf, lasts, since, Passes, keeps, not-over}
+use Rattle.timing.proofs.Finite.{clockOf, lasts, since, Passes, keeps, prompt, not-over}
 
 -- Task 2 runs for 2 and sleeps once, through 1; task 1 runs for 4. Of the resource 1 they have sections of 1, task 2 one and task 1 two.
 abbrev pub bytes : List ℕ
@@ -60,12 +60,12 @@ clock = clockOf counts
 abbrev pub saw : Seen
 saw = seenUnder machine.inForce (tableOf (freshOf bytes shape)) (inTurn calls)
 
--- The table is accepted, its tasks are told 5 and 6, and the jobs, as they are seen, keep to it. Both come at the instant 0, job 2 by the call 2 and
--- job 1 by the call 0; job 2 is there in the tick 4, and job 1 in the tick 5. So neither is over within less than its bound.
+-- The table is accepted, its tasks are told 5 and 6, and the jobs, as they are seen, keep to it and are completed at once. Both come at the instant 0,
+-- job 2 by the call 2 and job 1 by the call 0; job 2 is there in the tick 4, and job 1 in the tick 5. So neither is over within less than its bound.
 pub record Reached (X : Seen) : Type 0 where
   pub accepted : readTable bytes ≡ Accepted shape
   pub told : (answerAt (analysed bytes 100000) 0 ≡ Bound 5) × (answerAt (analysed bytes 100000) 1 ≡ Bound 6)
-  pub obeyed : Obeys bytes shape clock X
+  pub obeyed : Obeys bytes shape clock X × Prompt bytes shape clock X
   pub come : At clock 2 0 × At clock 0 0
   pub there : Has (X .event) 2 2 (callsBy clock 4) × Has (X .event) 1 0 (callsBy clock 5)
   pub no-sooner : (v : ℕ) → (OverWithin clock X 2 2 0 v → 5 ≤ v) × (OverWithin clock X 1 0 0 v → 6 ≤ v)
@@ -79,7 +79,7 @@ computed : ((readTable bytes ≡ Accepted shape) × (answerAt (analysed bytes 10
 unfolding stepAt readFrom endStep taskStep useStep taskRule useRule sumAfter placeFrom wordAt sumTo every answer analysis beforeLast lastFrom turns turn solve climb bagTo sumOfLargest ceiling extra blocking additions allowed analysedAs after step fit used named machine.running machine.systemPriority machine.top machine.ceiling first best all some largest has without timesOf lasts since
 computed = (
   (refl, refl, refl),
-  record { come-once = refl; all-end = refl; all-close = refl; working = refl; sleeping = refl; holding = refl },
+  record { come-once = refl; all-end = refl; all-close = refl; working = refl; sleeping = refl; holding = refl; ending = refl },
   ((refl, refl), (refl, refl)),
   (refl, refl, refl),
 )
@@ -94,7 +94,7 @@ reached =
     record {
       accepted = c .0 .0;
       told = (c .0 .1, c .0 .2);
-      obeyed = keeps bytes shape counts saw (c .1);
+      obeyed = (keeps bytes shape counts saw (c .1), prompt bytes shape counts saw (c .1));
       come = (come 2 (omega arith), come 0 (omega arith));
       there = (two, one);
       no-sooner = λ v.

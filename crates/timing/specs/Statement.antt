@@ -1,5 +1,6 @@
--- In time: where the analysis of a table's bytes tells a task a bound, each of its jobs is over within it, as long as the jobs keep to the table. Here
--- is what it is for calls to be made at instants, for a job to execute and to sleep, to keep to a table, and to be over in time.
+-- In time: where the analysis of a table's bytes tells a task a bound, the work of each of its jobs is done within it, as long as the jobs keep to the
+-- table; and where work that has ended is completed at once the job is over. Here is what it is for calls to be made at instants, for a job to execute
+-- and to sleep, to keep to a table, and to be done and over in time.
 use Prim.Native.Nat.{ℕ, zero, suc, _+_, _≤_, _<_}
 use mathlib.Core.Path.{_≡_}
 use mathlib.Core.Bool.{Bool}
@@ -97,10 +98,10 @@ pub record Obeys (s : List ℕ) (h : Shape) (K : Clock) (X : Seen) : Type 0 wher
   -- Releases of a task are T apart, or more.
   pub apart : (i a b t u : ℕ) → i < h .tasks → a < b → X .event a ≡ released (taskOf s i .priority) → X .event b ≡ released (taskOf s i .priority)
       → At K a t → At K b u → t + taskOf s i .period ≤ u
-  -- A job that is there in the tick r + n has executed in less than C ticks before it: work that ends at an instant is completed at that instant.
-  pub works : (i a r n : ℕ) → i < h .tasks → At K a r → Has (X .event) (taskOf s i .priority) a (callsBy K (r + n))
-      → count (executes K X (taskOf s i .priority)) r n < taskOf s i .run
-  -- A job that is there until the instant r + n has slept through S ticks at most,
+  -- A job that is there until the instant r + n has executed in C ticks at most,
+  pub works : (i a r n : ℕ) → i < h .tasks → At K a r → Has (X .event) (taskOf s i .priority) a (K .first (r + n))
+      → count (executes K X (taskOf s i .priority)) r n ≤ taskOf s i .run
+  -- and has slept through S at most;
   pub sleeps : (i a r n : ℕ) → i < h .tasks → At K a r → Has (X .event) (taskOf s i .priority) a (K .first (r + n))
       → count (rests K X i) r n ≤ taskOf s i .sleep
   -- and with a section open until then it has executed in L ticks at most since it opened that.
@@ -108,7 +109,23 @@ pub record Obeys (s : List ℕ) (h : Shape) (K : Clock) (X : Seen) : Type 0 wher
       → Open (X .event) o (useOf s (h .«uses_at») k .priority) (useOf s (h .«uses_at») k .resource) (K .first (r + n))
       → count (executes K X (useOf s (h .«uses_at») k .priority)) r n ≤ useOf s (h .«uses_at») k .length
 
+-- Work that ends at an instant is completed at that instant: a job that is there in the tick r + n has executed in less than C before it.
+abbrev pub Prompt : List ℕ → Shape → Clock → Seen → Type 0
+Prompt s h K X = (i a r n : ℕ) → i < h .tasks → At K a r → Has (X .event) (taskOf s i .priority) a (callsBy K (r + n))
+    → count (executes K X (taskOf s i .priority)) r n < taskOf s i .run
+
 -- ---- in time
+
+-- Of the job of the task at i that was released at the instant r nothing is left in the tick r + n: before it, it executed in all its C ticks and
+-- slept through all its S.
+abbrev pub NothingLeft : List ℕ → Clock → Seen → (i r n : ℕ) → Type 0
+NothingLeft s K X i r n =
+    (count (executes K X (taskOf s i .priority)) r n ≡ taskOf s i .run) × (count (rests K X i) r n ≡ taskOf s i .sleep)
+
+-- where a job is there in a tick from r + v on, v being the bound that its task is told, nothing is left of it but to be completed
+abbrev pub DoneInTime : List ℕ → Shape → ℕ → Clock → Seen → Type 0
+DoneInTime s h allowance K X = (i a r v n : ℕ) → i < h .tasks → answerAt (analysed s allowance) i ≡ Bound v
+    → At K a r → v ≤ n → Has (X .event) (taskOf s i .priority) a (callsBy K (r + n)) → NothingLeft s K X i r n
 
 -- The job of the priority p that the call a released at the instant r is over within v: a later call ended it, at the instant r + v at the latest.
 abbrev pub OverWithin : Clock → Seen → (p a r v : ℕ) → Type 0
