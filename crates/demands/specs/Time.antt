@@ -1,6 +1,6 @@
 -- In time: where the bounds program prints `verdict yes` for a table, and the jobs keep to that table, the work of no job is ever later than the bound
--- in its task's line; and where work that ends at an instant is completed at that instant no job is, and none misses its deadline. What it is to keep
--- to a table, and to be over in time, is in `timing`'s Statement: releases of a task are T apart; a job executes in C ticks at most, sleeps through S
+-- in its task's line; and a job that is completed at the instant at which its work ends is over by then, and misses no deadline. What it is to keep to
+-- a table, and to be over in time, is in `timing`'s Statement: releases of a task are T apart; a job executes in C ticks at most, sleeps through S
 -- at most, and stays in a section for L at most. That it makes no more than X sleeps and opens no section more than N times, the scheduler sees to.
 use Prim.Native.Nat.{ℕ, suc, _+_, _≤_, _<_}
 use mathlib.Core.Path.{_≡_, ap}
@@ -62,24 +62,23 @@ module _ {bytes : List ℕ} {h : Shape} {calls : ℕ → Call} {S : ℕ → Sche
     pub no-work-late : DoneInTime bytes h allowance K (seen calls S R)
     no-work-late = timing.calls-done-in-time D K O allowance
 
-    module _ (P : Prompt bytes h K (seen calls S R)) where
-      -- where work that ends at an instant is completed at that instant, every job is over within that bound
-      pub no-job-late : InTime bytes h allowance K (seen calls S R)
-      no-job-late = timing.calls-in-time D K O P allowance
+    -- a job that is completed at the instant at which its work ends is over within that bound
+    pub no-job-late : InTime bytes h allowance K (seen calls S R)
+    no-job-late = timing.calls-in-time D K O allowance
 
-      -- so where the verdict is yes no job of any task misses its deadline
-      pub no-deadline-missed : analysed bytes allowance .verdict ≡ true → (i a r : ℕ) → i < h .tasks
-          → seen calls S R .event a ≡ released (taskOf bytes i .priority) → At K a r
-          → OverWithin K (seen calls S R) (taskOf bytes i .priority) a r (taskOf bytes i .deadline)
-      no-deadline-missed yes-all i a r lt e p =
-          let w = each-bound allowance yes-all i lt in
-          let over = no-job-late i a r (w .0) lt (w .1) e p in
-          (over .0, over .1, omega (arith, over .2, first-rises K (suc (r + w .0)) (suc (r + taskOf bytes i .deadline)) (omega (arith, w .3))), over .3)
+    -- so where the verdict is yes no such job of any task misses its deadline
+    pub no-deadline-missed : analysed bytes allowance .verdict ≡ true → (i a r : ℕ) → i < h .tasks
+        → seen calls S R .event a ≡ released (taskOf bytes i .priority) → At K a r → Prompt bytes K (seen calls S R) i a r
+        → OverWithin K (seen calls S R) (taskOf bytes i .priority) a r (taskOf bytes i .deadline)
+    no-deadline-missed yes-all i a r lt e p q =
+        let w = each-bound allowance yes-all i lt in
+        let over = no-job-late i a r (w .0) lt (w .1) e p q in
+        (over .0, over .1, omega (arith, over .2, first-rises K (suc (r + w .0)) (suc (r + taskOf bytes i .deadline)) (omega (arith, w .3))), over .3)
 
-      -- and a release T or more after the task's last one is not refused for a job that is still there, unless at the very instant, the bound being T,
-      -- the call that ends the job comes after it
-      pub next-release : ReleasedInTime bytes h allowance calls K (seen calls S R) (λ k. R k .refusal)
-      next-release = timing.calls-released-in-time D K O P allowance
+    -- and a release T or more after it is not refused for a job that is still there, unless at the very instant, the bound being T, the call that ends
+    -- the job comes after it
+    pub next-release : ReleasedInTime bytes h allowance calls K (seen calls S R) (λ k. R k .refusal)
+    next-release = timing.calls-released-in-time D K O allowance
 
 -- ---- not empty, and not of every rule
 
@@ -97,6 +96,5 @@ former-late = late.former-late
 pub former-in-time : (bytes : List ℕ) (h : Shape) → readTable bytes ≡ Accepted h → ((i : ℕ) → i < h .tasks → taskOf bytes i .setting ≡ 0)
     → (calls : ℕ → Call) (K : Clock) → Obeys bytes h K (seenUnder aboveSystem (tableOf (freshOf bytes h)) calls) → (allowance : ℕ)
     → DoneInTime bytes h allowance K (seenUnder aboveSystem (tableOf (freshOf bytes h)) calls)
-    × (Prompt bytes h K (seenUnder aboveSystem (tableOf (freshOf bytes h)) calls)
-    → InTime bytes h allowance K (seenUnder aboveSystem (tableOf (freshOf bytes h)) calls))
+    × InTime bytes h allowance K (seenUnder aboveSystem (tableOf (freshOf bytes h)) calls)
 former-in-time = timing.former-in-time

@@ -240,8 +240,8 @@ module _ (s : List ℕ) (h : Shape) (counts : List ℕ) (X : Seen) where
   }
 
   -- and complete work that has ended
-  pub prompt : Passes → Prompt s h clock X
-  prompt P i a r n lt came w =
+  pub prompt : Passes → (i a r : ℕ) → i < h .tasks → At clock a r → Prompt s clock X i a r
+  prompt P i a r lt came n w =
       below-so (comes i) (goes i) (job-ends P i lt) (executes clock X (task i .priority)) (task i .run) r n
       (all-each endsPromptly (h .tasks) (P .ending) i lt) (came .till) (record { began = w .began; made = w .made; kept = w .going })
 

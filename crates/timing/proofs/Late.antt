@@ -1,5 +1,5 @@
 -- Why the rule in force: under the former one a job was late, though every task is told a bound and the jobs keep to the table.
-use Prim.Native.Nat.{ℕ}
+use Prim.Native.Nat.{ℕ, _<_}
 use mathlib.Core.Path.{_≡_, refl}
 use mathlib.Core.Bool.{true}
 use mathlib.Core.List.{List, [], _∷_, _++_}
@@ -32,7 +32,8 @@ use Rattle.scheduler.specs.View.{tableOf}
 use Rattle.scheduler.specs.Fresh.{timesOf, freshOf}
 use Rattle.cases.specs.Tables.{task, usage, end}
 use Rattle.timing.specs.Statement.{Clock, At, callsBy, Seen, seenUnder, executes, count, Obeys, Prompt, DoneInTime, InTime}
-use Rattle.timing.proofs.Finite.{clockOf, lasts, since, Passes, keeps, prompt, not-over}
+use Rattle.timing.proofs.Finite.{clockOf, lasts, since, Passes, keeps, not-over}
+use Rattle.timing.proofs.Finite as finite
 
 -- Task 3, with the setting 1, runs for 1 and sleeps once, through 3. Tasks 2 and 1 run for 1 and 2, and have a section of 1 of the resource 1 each.
 -- The deadline of task 2 is 4.
@@ -68,7 +69,8 @@ pub record Late : Type 0 where
   pub verdict : analysed bytes 100000 .verdict ≡ true
   pub told : (answerAt (analysed bytes 100000) 0 ≡ Bound 4) × (answerAt (analysed bytes 100000) 1 ≡ Bound 3)
       × (answerAt (analysed bytes 100000) 2 ≡ Bound 8)
-  pub obeyed : Obeys bytes shape clock saw × Prompt bytes shape clock saw
+  pub obeyed : Obeys bytes shape clock saw
+  pub prompt : (i a r : ℕ) → i < 3 → At clock a r → Prompt bytes clock saw i a r
   pub comes : At clock 4 0
   pub deadline : taskOf bytes 1 .deadline ≡ 4
   pub there : Has (saw .event) 2 4 (callsBy clock 5)
@@ -102,13 +104,14 @@ former-late =
       accepted = c .0 .0;
       verdict = c .0 .1;
       told = (c .0 .2, c .0 .3, c .0 .4);
-      obeyed = (keeps bytes shape counts saw (c .1), prompt bytes shape counts saw (c .1));
+      obeyed = keeps bytes shape counts saw (c .1);
+      prompt = finite.prompt bytes shape counts saw (c .1);
       comes = comes;
       deadline = c .0 .5;
       there = there;
       late = λ all-in-time. omega (
         arith,
-        not-over clock saw 2 4 0 3 5 there (all-in-time 1 4 0 3 (omega arith) (c .0 .3) (c .2 .0) comes),
+        not-over clock saw 2 4 0 3 5 there (all-in-time 1 4 0 3 (omega arith) (c .0 .3) (c .2 .0) comes (finite.prompt bytes shape counts saw (c .1) 1 4 0 (omega arith) comes)),
       );
       work-late = λ all-done. omega (arith, c .4, all-done 1 4 0 3 5 (omega arith) (c .0 .3) comes (omega arith) there .0);
     }

@@ -90,11 +90,10 @@ none-late G (suc m) i a r n lt h due l x =
 done-in-time : (G : Given) (i a r n : ℕ) → i < G .table .size → At (G .clock) a r → value G i ≤ n → There G i a (tick G (r + n)) → Finished G i r n
 done-in-time G i a r n lt h due x = none-late G (suc (r + n)) i a r n lt h due (omega arith) x
 
--- and where work that ends is completed each is over in time: a call up to then ended it
-over-in-time : (G : Given) → Prompt (G .bytes) (G .shape) (G .clock) (sight G) → (i a r : ℕ) → i < G .table .size
-    → ev G a ≡ released (priority (G .table) i) → At (G .clock) a r
-    → OverWithin (G .clock) (sight G) (priority (G .table) i) a r (value G i)
-over-in-time G P i a r lt e h = go (never (ev G) end a due) refl
+-- and one that is completed promptly is over in time: a call up to then ended it
+over-in-time : (G : Given) (i a r : ℕ) → i < G .table .size → ev G a ≡ released (priority (G .table) i) → At (G .clock) a r
+    → Prompt (G .bytes) (G .clock) (sight G) i a r → OverWithin (G .clock) (sight G) (priority (G .table) i) a r (value G i)
+over-in-time G i a r lt e h P = go (never (ev G) end a due) refl
   where
     end : Event
     end = ended (priority (G .table) i)
@@ -113,7 +112,7 @@ over-in-time G P i a r lt e h = go (never (ev G) end a due) refl
           arith,
           done-in-time G i a r (value G i) lt h (omega arith) x .0,
           ap (λ p. count (executes (G .clock) (sight G) p) r (value G i)) same,
-          P i a r (value G i) (omega (arith, lt, G .figures .size)) h (subst (λ p. Has (ev G) p a due) same x),
+          P (value G i) (subst (λ p. Has (ev G) p a due) same x),
         )
 
     go : (b : Bool) → never (ev G) end a due ≡ b → OverWithin (G .clock) (sight G) (priority (G .table) i) a r (value G i)
@@ -175,26 +174,25 @@ module _ (s : List ℕ) (h : Shape) (accepted : readTable s ≡ reading.Accepted
         let f = done-in-time (given (w .0)) i a r n lt p (omega (arith, w .1)) there in
         (ap (λ q. count (executes K (seenUnder inForce T calls) q) r n) (sym (same i lt)) ∙ f .0, f .1)
 
-    module _ (P : Prompt s h K (seenUnder inForce T calls)) where
-      -- where work that ends is completed every job is over within the bound that its task is told
-      pub in-time : (allowance : ℕ) → InTime s h allowance K (seenUnder inForce T calls)
-      in-time allowance i a r v lt told e p =
-          let w = told-value allowance i v lt told in
-          subst (λ q. OverWithin K (seenUnder inForce T calls) q a r v) (same i lt)
-          (subst (OverWithin K (seenUnder inForce T calls) (priority T i) a r) (w .1)
-          (over-in-time (given (w .0)) P i a r lt (e ∙ sym (ap released (same i lt))) p))
+    -- a job that is completed promptly is over within the bound that its task is told
+    pub in-time : (allowance : ℕ) → InTime s h allowance K (seenUnder inForce T calls)
+    in-time allowance i a r v lt told e p P =
+        let w = told-value allowance i v lt told in
+        subst (λ q. OverWithin K (seenUnder inForce T calls) q a r v) (same i lt)
+        (subst (OverWithin K (seenUnder inForce T calls) (priority T i) a r) (w .1)
+        (over-in-time (given (w .0)) i a r lt (e ∙ sym (ap released (same i lt))) p P))
 
-      -- and a release T or more after the last one is refused with 12 only where the job's end is called later at that instant
-      pub released-in-time : (allowance : ℕ)
-          → ReleasedInTime s h allowance calls K (seenUnder inForce T calls) (λ k. step inForce T (after inForce T calls k) (calls k) .refusal)
-      released-in-time allowance i a b t u v lt told again refused =
-          let w = told-value allowance i v lt told in
-          subst (λ q. AtTheInstant K (seenUnder inForce T calls) q b t u v (taskOf s i .period)) (same i lt)
-          (refused-at (fresh-accepted s h (well-formed s h accepted)) calls K lt
-          (subst (λ q. ReleasedAgain calls K (seenUnder inForce T calls) q a b t u (taskOf s i .period)) (sym (same i lt)) again) refused
-          (omega (arith, w .1, value-room (given (w .0)) i lt .1))
-          (subst (λ q. OverWithin K (seenUnder inForce T calls) q a t v) (sym (same i lt))
-          (in-time allowance i a t v lt told (again .last) (again .last-at))))
+    -- and a release T or more after it is refused with 12 only where its end is called later at that instant
+    pub released-in-time : (allowance : ℕ)
+        → ReleasedInTime s h allowance calls K (seenUnder inForce T calls) (λ k. step inForce T (after inForce T calls k) (calls k) .refusal)
+    released-in-time allowance i a b t u v lt told again P refused =
+        let w = told-value allowance i v lt told in
+        subst (λ q. AtTheInstant K (seenUnder inForce T calls) q b t u v (taskOf s i .period)) (same i lt)
+        (refused-at (fresh-accepted s h (well-formed s h accepted)) calls K lt
+        (subst (λ q. ReleasedAgain calls K (seenUnder inForce T calls) q a b t u (taskOf s i .period)) (sym (same i lt)) again) refused
+        (omega (arith, w .1, value-room (given (w .0)) i lt .1))
+        (subst (λ q. OverWithin K (seenUnder inForce T calls) q a t v) (sym (same i lt))
+        (in-time allowance i a t v lt told (again .last) (again .last-at) P)))
 
 -- ---- the scheduler's own calls
 
@@ -213,19 +211,17 @@ module _ {s : List ℕ} {h : Shape} {calls : ℕ → Call} {S : ℕ → Schedule
     calls-done-in-time allowance =
         subst (DoneInTime s h allowance K) (sym seen-is) (work-in-time s h (D .reads) calls K (subst (Obeys s h K) seen-is O) allowance)
 
-    module _ (P : Prompt s h K (seen calls S R)) where
-      -- where work that ends is completed every job is over within the bound that its task is told
-      pub calls-in-time : (allowance : ℕ) → InTime s h allowance K (seen calls S R)
-      calls-in-time allowance =
-          subst (InTime s h allowance K) (sym seen-is)
-          (in-time s h (D .reads) calls K (subst (Obeys s h K) seen-is O) (subst (Prompt s h K) seen-is P) allowance)
+    -- a job that is completed promptly is over within the bound that its task is told
+    pub calls-in-time : (allowance : ℕ) → InTime s h allowance K (seen calls S R)
+    calls-in-time allowance =
+        subst (InTime s h allowance K) (sym seen-is) (in-time s h (D .reads) calls K (subst (Obeys s h K) seen-is O) allowance)
 
-      -- and a release T or more after the last one is refused with 12 only where the job's end is called later at that instant
-      pub calls-released-in-time : (allowance : ℕ) → ReleasedInTime s h allowance calls K (seen calls S R) (λ k. R k .refusal)
-      calls-released-in-time allowance =
-          subst (λ X. ReleasedInTime s h allowance calls K X (λ k. R k .refusal)) (sym seen-is)
-          (subst (ReleasedInTime s h allowance calls K (seenUnder inForce (tableOf (freshOf s h)) calls)) (sym (fun-ext (refusal-is D)))
-          (released-in-time s h (D .reads) calls K (subst (Obeys s h K) seen-is O) (subst (Prompt s h K) seen-is P) allowance))
+    -- and a release T or more after it is refused with 12 only where its end is called later at that instant
+    pub calls-released-in-time : (allowance : ℕ) → ReleasedInTime s h allowance calls K (seen calls S R) (λ k. R k .refusal)
+    calls-released-in-time allowance =
+        subst (λ X. ReleasedInTime s h allowance calls K X (λ k. R k .refusal)) (sym seen-is)
+        (subst (ReleasedInTime s h allowance calls K (seenUnder inForce (tableOf (freshOf s h)) calls)) (sym (fun-ext (refusal-is D)))
+        (released-in-time s h (D .reads) calls K (subst (Obeys s h K) seen-is O) allowance))
 
 -- ---- the former rule
 
@@ -262,10 +258,9 @@ module _ (s : List ℕ) (h : Shape) (accepted : readTable s ≡ reading.Accepted
 
     -- so where all settings are 0 it was the same under the former rule
     pub former-in-time : (K : Clock) → Obeys s h K (seenUnder aboveSystem bare calls) → (allowance : ℕ)
-        → DoneInTime s h allowance K (seenUnder aboveSystem bare calls)
-        × (Prompt s h K (seenUnder aboveSystem bare calls) → InTime s h allowance K (seenUnder aboveSystem bare calls))
+        → DoneInTime s h allowance K (seenUnder aboveSystem bare calls) × InTime s h allowance K (seenUnder aboveSystem bare calls)
     former-in-time K O allowance =
         let obeys = subst (Obeys s h K) (sym former-seen) O in (
           subst (DoneInTime s h allowance K) former-seen (work-in-time s h accepted calls K obeys allowance),
-          λ P. subst (InTime s h allowance K) former-seen (in-time s h accepted calls K obeys (subst (Prompt s h K) (sym former-seen) P) allowance),
+          subst (InTime s h allowance K) former-seen (in-time s h accepted calls K obeys allowance),
         )

@@ -33,7 +33,8 @@ use Rattle.scheduler.proofs.Theorems.{driven, drives}
 use Rattle.cases.specs.Tables.{task, usage, end}
 use Rattle.timing.specs.Statement.{Clock, At, callsBy, Seen, seen, seenUnder, Obeys, Prompt, OverWithin}
 use Rattle.timing.proofs.Theorems.{seen-is}
-use Rattle.timing.proofs.Finite.{clockOf, lasts, since, Passes, keeps, prompt, not-over}
+use Rattle.timing.proofs.Finite.{clockOf, lasts, since, Passes, keeps, not-over}
+use Rattle.timing.proofs.Finite as finite
 
 -- Task 2 runs for 2 and sleeps once, through 1; task 1 runs for 4. Of the resource 1 they have sections of 1, task 2 one and task 1 two.
 abbrev pub bytes : List ℕ
@@ -65,7 +66,8 @@ saw = seenUnder machine.inForce (tableOf (freshOf bytes shape)) (inTurn calls)
 pub record Reached (X : Seen) : Type 0 where
   pub accepted : readTable bytes ≡ Accepted shape
   pub told : (answerAt (analysed bytes 100000) 0 ≡ Bound 5) × (answerAt (analysed bytes 100000) 1 ≡ Bound 6)
-  pub obeyed : Obeys bytes shape clock X × Prompt bytes shape clock X
+  pub obeyed : Obeys bytes shape clock X
+  pub prompt : (i a r : ℕ) → i < 2 → At clock a r → Prompt bytes clock X i a r
   pub come : At clock 2 0 × At clock 0 0
   pub there : Has (X .event) 2 2 (callsBy clock 4) × Has (X .event) 1 0 (callsBy clock 5)
   pub no-sooner : (v : ℕ) → (OverWithin clock X 2 2 0 v → 5 ≤ v) × (OverWithin clock X 1 0 0 v → 6 ≤ v)
@@ -94,7 +96,8 @@ reached =
     record {
       accepted = c .0 .0;
       told = (c .0 .1, c .0 .2);
-      obeyed = (keeps bytes shape counts saw (c .1), prompt bytes shape counts saw (c .1));
+      obeyed = keeps bytes shape counts saw (c .1);
+      prompt = finite.prompt bytes shape counts saw (c .1);
       come = (come 2 (omega arith), come 0 (omega arith));
       there = (two, one);
       no-sooner = λ v.

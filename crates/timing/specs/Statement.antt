@@ -109,9 +109,10 @@ pub record Obeys (s : List ℕ) (h : Shape) (K : Clock) (X : Seen) : Type 0 wher
       → Open (X .event) o (useOf s (h .«uses_at») k .priority) (useOf s (h .«uses_at») k .resource) (K .first (r + n))
       → count (executes K X (useOf s (h .«uses_at») k .priority)) r n ≤ useOf s (h .«uses_at») k .length
 
--- Work that ends at an instant is completed at that instant: a job that is there in the tick r + n has executed in less than C before it.
-abbrev pub Prompt : List ℕ → Shape → Clock → Seen → Type 0
-Prompt s h K X = (i a r n : ℕ) → i < h .tasks → At K a r → Has (X .event) (taskOf s i .priority) a (callsBy K (r + n))
+-- The job of the task at i that the call a released at r is completed at the instant at which its work ends: if it is there in the tick r + n, it has
+-- executed in less than C before it.
+abbrev pub Prompt : List ℕ → Clock → Seen → (i a r : ℕ) → Type 0
+Prompt s K X i a r = (n : ℕ) → Has (X .event) (taskOf s i .priority) a (callsBy K (r + n))
     → count (executes K X (taskOf s i .priority)) r n < taskOf s i .run
 
 -- ---- in time
@@ -131,10 +132,10 @@ DoneInTime s h allowance K X = (i a r v n : ℕ) → i < h .tasks → answerAt (
 abbrev pub OverWithin : Clock → Seen → (p a r v : ℕ) → Type 0
 OverWithin K X p a r v = (j : ℕ) × (a < j) × (j < callsBy K (r + v)) × (X .event j ≡ ended p)
 
--- every job of every task is over within the bound that its task is told
+-- every job that is completed promptly is over within the bound that its task is told
 abbrev pub InTime : List ℕ → Shape → ℕ → Clock → Seen → Type 0
 InTime s h allowance K X = (i a r v : ℕ) → i < h .tasks → answerAt (analysed s allowance) i ≡ Bound v
-    → X .event a ≡ released (taskOf s i .priority) → At K a r → OverWithin K X (taskOf s i .priority) a r v
+    → X .event a ≡ released (taskOf s i .priority) → At K a r → Prompt s K X i a r → OverWithin K X (taskOf s i .priority) a r v
 
 -- ---- releases
 
@@ -157,8 +158,9 @@ pub record AtTheInstant (K : Clock) (X : Seen) (p b t u v period : ℕ) : Type 0
   pub same : At K call u
   pub ends : X .event call ≡ ended p
 
--- of a task that is told a bound, a release T or more after the last one is refused with 12, by these refusals, only if it is at the very instant
+-- of a task that is told a bound, a release T or more after one whose job is completed promptly is refused with 12, by these refusals, only if it is at
+-- the very instant
 abbrev pub ReleasedInTime : List ℕ → Shape → ℕ → (ℕ → Call) → Clock → Seen → (ℕ → ℕ) → Type 0
 ReleasedInTime s h allowance calls K X refusal = (i a b t u v : ℕ) → i < h .tasks → answerAt (analysed s allowance) i ≡ Bound v
-    → ReleasedAgain calls K X (taskOf s i .priority) a b t u (taskOf s i .period) → refusal b ≡ 12
+    → ReleasedAgain calls K X (taskOf s i .priority) a b t u (taskOf s i .period) → Prompt s K X i a t → refusal b ≡ 12
     → AtTheInstant K X (taskOf s i .priority) b t u v (taskOf s i .period)
