@@ -32,6 +32,7 @@ use Rattle.timing.specs.Statement.{Clock, At, seen, seenUnder, Obeys, Prompt, D
 use Rattle.timing.proofs.Instants.{first-rises}
 use Rattle.timing.proofs.Theorems as timing
 use Rattle.timing.proofs.Witness as witness
+use Rattle.timing.proofs.Needed as needed
 use Rattle.timing.proofs.Late as late
 
 module _ {bytes : List ℕ} {h : Shape} {calls : ℕ → Call} {S : ℕ → Scheduler} {R : ℕ → Reply} (D : Driven bytes h calls S R) where
@@ -80,13 +81,18 @@ module _ {bytes : List ℕ} {h : Shape} {calls : ℕ → Call} {S : ℕ → Sche
     pub next-release : ReleasedInTime bytes h allowance calls K (seen calls S R) (λ k. R k .refusal)
     next-release = timing.calls-released-in-time D K O allowance
 
--- ---- not empty, and not of every rule
+-- ---- not empty, nothing asked in vain, and not so of every rule
 
 -- of this table the tasks are told 5 and 6, and in these calls, that keep to it, with sections and a sleep, the jobs are there until just then
 pub there-until-then : witness.Reached
     (seen (inTurn witness.calls) (driven witness.bytes (inTurn witness.calls))
     (λ k. replied (driven witness.bytes (inTurn witness.calls) k) (inTurn witness.calls k)))
 there-until-then = witness.calls-reached
+
+-- a job that is not completed promptly need not be over: of this table the tasks are told 1 and 3, these calls keep to it, and job 1, which ends with a
+-- sleep, is there in the tick 3
+pub must-be-prompt : needed.Unprompt
+must-be-prompt = needed.unprompt
 
 -- under the former rule it was not so: of this table the verdict is yes, these calls keep to it, and a job misses its deadline
 pub former-late : late.Late

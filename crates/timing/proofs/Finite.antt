@@ -8,12 +8,12 @@ use native.Mathlib.Nat.{le-refl, add-suc}
 use native.Mathlib.Decide.{decLe, decLt, ℕ-discrete}
 use lib.Dec.{ltb, leb}
 use lib.ListN.{getD, length, List·getD-eq-default}
-use borrow.Author.Tests.{ltb-true, leb-true, not-true}
+use borrow.Author.Tests.{ltb-true, leb-true, le-leb, lt-leb, not-true}
 use Rattle.searches.specs.Searches.{all, only}
 use Rattle.searches.specs.Indexed.{sumTo}
 use Rattle.searches.proofs.Testing.{impossible}
 use Rattle.searches.proofs.Searching.{all-each}
-use Rattle.searches.proofs.Sums.{sumTo-none, sumTo-flat, sumTo-grows}
+use Rattle.searches.proofs.Sums.{sumTo-none, sumTo-flat, sumTo-alike, sumTo-first, sumTo-grows}
 use Rattle.table.specs.declared.Shape.{Shape}
 use Rattle.table.specs.declared.Task.{Task}
 use Rattle.table.specs.declared.Use.{Use}
@@ -89,9 +89,14 @@ module _ (s : List ℕ) (h : Shape) (counts : List ℕ) (X : Seen) where
   abbrev lasting : Event → Event → ℕ → Bool
   lasting e f t = lasts (X .event) e f (callsBy clock t)
 
-  -- whether no two calls bring the event e about
-  abbrev once : Event → Bool
-  once e = all (λ b. all (λ a. not (is (X .event a) e && is (X .event b) e)) b) (callsBy clock end)
+  -- the instant of a call: so many are over before it
+  abbrev instantOf : ℕ → ℕ
+  instantOf a = sumTo (λ t. only (leb (callsBy clock t) a) 1) end
+
+  -- whether any two calls that bring the event e about are at instants n apart, or more
+  abbrev apart : Event → ℕ → Bool
+  apart e n =
+      all (λ b. all (λ a. not (is (X .event a) e && is (X .event b) e) || leb (instantOf a + n) (instantOf b)) b) (callsBy clock end)
 
   -- whether each event e is followed by an f
   abbrev over : Event → Event → Bool
@@ -134,7 +139,7 @@ module _ (s : List ℕ) (h : Shape) (counts : List ℕ) (X : Seen) where
   worksWithin i = within (comes i) (goes i) (executes clock X (task i .priority)) (task i .run)
 
   -- whether it has executed in less than C before each tick in which it is there
-  abbrev endsPromptly : ℕ → Bool
+  abbrev pub endsPromptly : ℕ → Bool
   endsPromptly i = below (comes i) (goes i) (executes clock X (task i .priority)) (task i .run)
 
   -- whether it sleeps through S at most
@@ -145,15 +150,14 @@ module _ (s : List ℕ) (h : Shape) (counts : List ℕ) (X : Seen) where
   abbrev holdsWithin : ℕ → Bool
   holdsWithin k = within (locks k) (unlocks k) (executes clock X (usage k .priority)) (usage k .length)
 
-  -- Each task is released once at most, its job ends, and each section is closed; they keep to their figures; and work that ends is completed.
+  -- Each job ends, each section is closed, and they keep to their figures.
   pub record Passes : Type 0 where
-    pub come-once : all (λ i. once (comes i)) (h .tasks) ≡ true
+    pub coming : all (λ i. apart (comes i) (task i .period)) (h .tasks) ≡ true
     pub all-end : all (λ i. over (comes i) (goes i)) (h .tasks) ≡ true
     pub all-close : all (λ k. over (locks k) (unlocks k)) (h .uses) ≡ true
     pub working : all worksWithin (h .tasks) ≡ true
     pub sleeping : all sleepsWithin (h .tasks) ≡ true
     pub holding : all holdsWithin (h .uses) ≡ true
-    pub ending : all endsPromptly (h .tasks) ≡ true
 
   -- ---- that they suffice
 
@@ -163,17 +167,32 @@ module _ (s : List ℕ) (h : Shape) (counts : List ℕ) (X : Seen) where
       let e : t ≡ end + (t - end) = omega arith in
       ap (clock .first) e ∙ sumTo-flat (λ t. getD counts t 0) end (t - end) 0 (λ y lo hi. List·getD-eq-default counts 0 lo) ∙ omega arith
 
-  -- what passed as once doesn't happen again
-  once-so : (e : Event) (a b u : ℕ) → once e ≡ true → a < b → X .event a ≡ e → X .event b ≡ e → At clock b u → ⊥
-  once-so e a b u passed lt first again made =
-      let row = all-each (λ b. all (λ a. not (is (X .event a) e && is (X .event b) e)) b) (callsBy clock end) passed b (by-end (decLe u end)) in
-      let both = all-each (λ a. not (is (X .event a) e && is (X .event b) e)) b row a lt in
-      let no : false ≡ true = rw (first, again, is-itself e) at both in
-      impossible cc
+  -- a call is made before the end
+  made-before : (a t : ℕ) → At clock a t → t < end
+  made-before a t made = go (decLt t end)
     where
-      by-end : Dec (u ≤ end) → b < callsBy clock end
-      by-end (yes le) = omega (arith, made .till, first-rises clock (suc u) (suc end) (omega arith))
-      by-end (no gt) = omega (arith, made .till, still (suc u) (omega arith), still (suc end) (omega arith))
+      go : Dec (t < end) → t < end
+      go (yes lt) = lt
+      go (no ge) = absurd (omega (arith, made .from, made .till, still t (omega arith), still (suc t) (omega arith)))
+
+  -- at the instant that is counted
+  instant-so : (a t : ℕ) → At clock a t → instantOf a ≡ t
+  instant-so a t made =
+      sumTo-first (λ x. 1) (λ x. only (leb (callsBy clock x) a) 1) t end (omega (arith, made-before a t made))
+      (λ x lt. rw (le-leb (callsBy clock x) a (omega (arith, made .from, first-rises clock (suc x) t lt))))
+      (λ x ge lt. rw (lt-leb (callsBy clock x) a (omega (arith, made .till, first-rises clock (suc t) (suc x) (omega arith)))))
+      ∙ sumTo-alike (λ x. 1) t 1 (λ x lt. refl) ∙ omega arith
+
+  -- what passed as apart is so
+  apart-so : (e : Event) (n a b t u : ℕ) → apart e n ≡ true → a < b → X .event a ≡ e → X .event b ≡ e → At clock a t → At clock b u → t + n ≤ u
+  apart-so e n a b t u passed lt first again came comes-again =
+      let by-end : b < callsBy clock end =
+      omega (arith, comes-again .till, first-rises clock (suc u) (suc end) (omega (arith, made-before b u comes-again))) in
+      let row = all-each (λ b. all (λ a. not (is (X .event a) e && is (X .event b) e) || leb (instantOf a + n) (instantOf b)) b) (callsBy clock end)
+      passed b by-end in
+      let pair = all-each (λ a. not (is (X .event a) e && is (X .event b) e) || leb (instantOf a + n) (instantOf b)) b row a lt in
+      let far : leb (instantOf a + n) (instantOf b) ≡ true = rw (first, again, is-itself e) at pair in
+      omega (arith, leb-true (instantOf a + n) (instantOf b) far, instant-so a t came, instant-so b u comes-again)
 
   module _ (e f : Event) (closes : over e f ≡ true) {o : ℕ} where
     -- nothing lasts to the end
@@ -225,8 +244,8 @@ module _ (s : List ℕ) (h : Shape) (counts : List ℕ) (X : Seen) where
   -- calls that pass keep to the table
   pub keeps : Passes → Obeys s h clock X
   keeps P = record {
-    apart = λ i a b t u lt l ea eb ka kb.
-        absurd (once-so (comes i) a b u (all-each (λ i. once (comes i)) (h .tasks) (P .come-once) i lt) l ea eb kb);
+    apart = λ i a b t u lt l ea eb.
+        apart-so (comes i) (task i .period) a b t u (all-each (λ i. apart (comes i) (task i .period)) (h .tasks) (P .coming) i lt) l ea eb;
     works = λ i a r n lt came w.
         within-so (comes i) (goes i) (job-ends P i lt) (executes clock X (task i .priority)) (task i .run) r n
         (all-each worksWithin (h .tasks) (P .working) i lt) (came .till) (record { began = w .began; made = w .made; kept = w .going });
@@ -239,11 +258,11 @@ module _ (s : List ℕ) (h : Shape) (counts : List ℕ) (X : Seen) where
         (all-each holdsWithin (h .uses) (P .holding) k lt) (came .till) (record { began = w .began; made = w .made; kept = w .kept });
   }
 
-  -- and complete work that has ended
-  pub prompt : Passes → (i a r : ℕ) → i < h .tasks → At clock a r → Prompt s clock X i a r
-  prompt P i a r lt came n w =
+  -- and those that pass that test complete work that has ended
+  pub prompt : Passes → all endsPromptly (h .tasks) ≡ true → (i a r : ℕ) → i < h .tasks → At clock a r → Prompt s clock X i a r
+  prompt P passed i a r lt came n w =
       below-so (comes i) (goes i) (job-ends P i lt) (executes clock X (task i .priority)) (task i .run) r n
-      (all-each endsPromptly (h .tasks) (P .ending) i lt) (came .till) (record { began = w .began; made = w .made; kept = w .going })
+      (all-each endsPromptly (h .tasks) passed i lt) (came .till) (record { began = w .began; made = w .made; kept = w .going })
 
 -- ---- jobs that are still there
 

@@ -32,7 +32,7 @@ use Rattle.scheduler.specs.View.{tableOf}
 use Rattle.scheduler.specs.Fresh.{timesOf, freshOf}
 use Rattle.cases.specs.Tables.{task, usage, end}
 use Rattle.timing.specs.Statement.{Clock, At, callsBy, Seen, seenUnder, executes, count, Obeys, Prompt, DoneInTime, InTime}
-use Rattle.timing.proofs.Finite.{clockOf, lasts, since, Passes, keeps, not-over}
+use Rattle.timing.proofs.Finite.{clockOf, lasts, since, endsPromptly, Passes, keeps, not-over}
 use Rattle.timing.proofs.Finite as finite
 
 -- Task 3, with the setting 1, runs for 1 and sleeps once, through 3. Tasks 2 and 1 run for 1 and 2, and have a section of 1 of the resource 1 each.
@@ -81,14 +81,14 @@ pub record Late : Type 0 where
 -- the work of job 2 before the tick 5
 computed : ((readTable bytes ≡ Accepted shape) × (analysed bytes 100000 .verdict ≡ true) × (answerAt (analysed bytes 100000) 0 ≡ Bound 4)
     × (answerAt (analysed bytes 100000) 1 ≡ Bound 3) × (answerAt (analysed bytes 100000) 2 ≡ Bound 8) × (taskOf bytes 1 .deadline ≡ 4))
-    × Passes bytes shape counts saw
+    × (Passes bytes shape counts saw × (all (endsPromptly bytes shape counts saw) (shape .tasks) ≡ true))
     × ((saw .event 4 ≡ released 2) × (never (saw .event) (ended 2) 4 (callsBy clock 5) ≡ true))
     × ((callsBy clock 0 ≡ 5) × (callsBy clock 5 ≡ 8))
     × ((count (executes clock saw (taskOf bytes 1 .priority)) 0 5 ≡ 0) × (taskOf bytes 1 .run ≡ 1))
 unfolding stepAt readFrom endStep taskStep useStep taskRule useRule sumAfter placeFrom wordAt sumTo every answer analysis beforeLast lastFrom turns turn solve climb bagTo sumOfLargest ceiling extra blocking additions allowed analysedAs after step fit used named machine.running machine.systemPriority machine.top machine.ceiling first best all some largest has without timesOf lasts since
 computed = (
   (refl, refl, refl, refl, refl, refl),
-  record { come-once = refl; all-end = refl; all-close = refl; working = refl; sleeping = refl; holding = refl; ending = refl },
+  (record { coming = refl; all-end = refl; all-close = refl; working = refl; sleeping = refl; holding = refl }, refl),
   (refl, refl),
   (refl, refl),
   (refl, refl),
@@ -104,14 +104,14 @@ former-late =
       accepted = c .0 .0;
       verdict = c .0 .1;
       told = (c .0 .2, c .0 .3, c .0 .4);
-      obeyed = keeps bytes shape counts saw (c .1);
-      prompt = finite.prompt bytes shape counts saw (c .1);
+      obeyed = keeps bytes shape counts saw (c .1 .0);
+      prompt = finite.prompt bytes shape counts saw (c .1 .0) (c .1 .1);
       comes = comes;
       deadline = c .0 .5;
       there = there;
       late = λ all-in-time. omega (
         arith,
-        not-over clock saw 2 4 0 3 5 there (all-in-time 1 4 0 3 (omega arith) (c .0 .3) (c .2 .0) comes (finite.prompt bytes shape counts saw (c .1) 1 4 0 (omega arith) comes)),
+        not-over clock saw 2 4 0 3 5 there (all-in-time 1 4 0 3 (omega arith) (c .0 .3) (c .2 .0) comes (finite.prompt bytes shape counts saw (c .1 .0) (c .1 .1) 1 4 0 (omega arith) comes)),
       );
       work-late = λ all-done. omega (arith, c .4, all-done 1 4 0 3 5 (omega arith) (c .0 .3) comes (omega arith) there .0);
     }

@@ -1,6 +1,8 @@
--- What is proved: `Theorems` has the chief statements, `Witness` and `Late` that they are not empty and not of every rule.
+-- What is proved: `Theorems` has the chief statements; `Witness`, `Needed` and `Late` that they are not empty, need what they ask, and are not so of
+-- every rule.
 pub mod Theorems
 pub mod Witness
+pub mod Needed
 pub mod Late
 -- Numbers of ticks.
 pub mod Counts

@@ -33,7 +33,7 @@ use Rattle.scheduler.proofs.Theorems.{driven, drives}
 use Rattle.cases.specs.Tables.{task, usage, end}
 use Rattle.timing.specs.Statement.{Clock, At, callsBy, Seen, seen, seenUnder, Obeys, Prompt, OverWithin}
 use Rattle.timing.proofs.Theorems.{seen-is}
-use Rattle.timing.proofs.Finite.{clockOf, lasts, since, Passes, keeps, not-over}
+use Rattle.timing.proofs.Finite.{clockOf, lasts, since, endsPromptly, Passes, keeps, not-over}
 use Rattle.timing.proofs.Finite as finite
 
 -- Task 2 runs for 2 and sleeps once, through 1; task 1 runs for 4. Of the resource 1 they have sections of 1, task 2 one and task 1 two.
@@ -74,14 +74,14 @@ pub record Reached (X : Seen) : Type 0 where
 
 -- what the checker computes: the answers, the tests, what the calls 2 and 0 bring about and what doesn't follow, how many calls there are by then
 computed : ((readTable bytes ≡ Accepted shape) × (answerAt (analysed bytes 100000) 0 ≡ Bound 5) × (answerAt (analysed bytes 100000) 1 ≡ Bound 6))
-    × Passes bytes shape counts saw
+    × (Passes bytes shape counts saw × (all (endsPromptly bytes shape counts saw) (shape .tasks) ≡ true))
     × (((saw .event 2 ≡ released 2) × (never (saw .event) (ended 2) 2 (callsBy clock 4) ≡ true))
     × ((saw .event 0 ≡ released 1) × (never (saw .event) (ended 1) 0 (callsBy clock 5) ≡ true)))
     × ((callsBy clock 0 ≡ 3) × (callsBy clock 4 ≡ 8) × (callsBy clock 5 ≡ 9))
 unfolding stepAt readFrom endStep taskStep useStep taskRule useRule sumAfter placeFrom wordAt sumTo every answer analysis beforeLast lastFrom turns turn solve climb bagTo sumOfLargest ceiling extra blocking additions allowed analysedAs after step fit used named machine.running machine.systemPriority machine.top machine.ceiling first best all some largest has without timesOf lasts since
 computed = (
   (refl, refl, refl),
-  record { come-once = refl; all-end = refl; all-close = refl; working = refl; sleeping = refl; holding = refl; ending = refl },
+  (record { coming = refl; all-end = refl; all-close = refl; working = refl; sleeping = refl; holding = refl }, refl),
   ((refl, refl), (refl, refl)),
   (refl, refl, refl),
 )
@@ -96,8 +96,8 @@ reached =
     record {
       accepted = c .0 .0;
       told = (c .0 .1, c .0 .2);
-      obeyed = keeps bytes shape counts saw (c .1);
-      prompt = finite.prompt bytes shape counts saw (c .1);
+      obeyed = keeps bytes shape counts saw (c .1 .0);
+      prompt = finite.prompt bytes shape counts saw (c .1 .0) (c .1 .1);
       come = (come 2 (omega arith), come 0 (omega arith));
       there = (two, one);
       no-sooner = λ v.
