@@ -105,30 +105,29 @@ module _ (G : Given) where
       let e : w .0 + (u - w .0) ≡ u = omega (arith, w .1) in
       (w .0, w .2, omega (arith, w .1), omega (arith, count-split f (w .0) (u - w .0) n, ap (λ x. count f x n) e))
 
-  -- a job that is there until an instant has executed in C at most
-  pub works : (i a u n : ℕ) → i < G .table .size → a < tick u → There i a (G .clock .first (u + n)) → count (exec i) u n ≤ task i .run
-  works i a u n lt l h =
-      let same = G .figures .priority-is i lt in
-      let w = from-later (exec i) a u n l in
+  -- what a count is at most from the job's release on, it is from any later tick on
+  since-release : (f : ℕ → ℕ) (c i a u n : ℕ) → i < G .table .size → a < tick u → There i a (G .clock .first (u + n))
+      → ((r m : ℕ) → At (G .clock) a r → Has ev (task i .priority) a (G .clock .first (r + m)) → count f r m ≤ c) → count f u n ≤ c
+  since-release f c i a u n lt l h most =
+      let w = from-later f a u n l in
+      let whole = u - w .0 + n in
       omega (
         arith,
         w .3,
-        ap (λ p. count (executes (G .clock) sight p) (w .0) (u - w .0 + n)) same,
-        G .obeys .works i a (w .0) (u - w .0 + n) (placed i lt) (w .1)
-            (subst (λ p. Has ev p a (G .clock .first (w .0 + (u - w .0 + n)))) same (rw (w .2) h)),
+        most (w .0) whole (w .1) (subst (λ p. Has ev p a (G .clock .first (w .0 + whole))) (G .figures .priority-is i lt) (rw (w .2) h)),
       )
+
+  -- a job that is there until an instant has executed in C at most
+  pub works : (i a u n : ℕ) → i < G .table .size → a < tick u → There i a (G .clock .first (u + n)) → count (exec i) u n ≤ task i .run
+  works i a u n lt l h =
+      since-release (exec i) (task i .run) i a u n lt l h (λ r m came x.
+      let same = ap (λ p. count (executes (G .clock) sight p) r m) (G .figures .priority-is i lt) in
+      omega (arith, same, G .obeys .works i a r m (placed i lt) came x))
 
   -- has slept through S at most
   pub sleeps : (i a u n : ℕ) → i < G .table .size → a < tick u → There i a (G .clock .first (u + n)) → count (rest i) u n ≤ task i .sleep
   sleeps i a u n lt l h =
-      let same = G .figures .priority-is i lt in
-      let w = from-later (rest i) a u n l in
-      omega (
-        arith,
-        w .3,
-        G .obeys .sleeps i a (w .0) (u - w .0 + n) (placed i lt) (w .1)
-            (subst (λ p. Has ev p a (G .clock .first (w .0 + (u - w .0 + n)))) same (rw (w .2) h)),
-      )
+      since-release (rest i) (task i .sleep) i a u n lt l h (λ r m came x. omega (arith, G .obeys .sleeps i a r m (placed i lt) came x))
 
   -- and in a section, that of the use k, it has executed in L at most
   pub holds : (k q r o u n : ℕ) → k < G .shape .uses → userOf (G .bytes) (G .shape .tasks) (G .shape .«uses_at») k ≡ q
