@@ -24,7 +24,7 @@ use Rattle.protocol.proofs.Counting.{has-until}
 use Rattle.timing.specs.Statement.{count}
 use Rattle.timing.proofs.Counts.{count-split, find, exchange}
 use Rattle.timing.proofs.Streams.{any-count, new-count}
-use Rattle.timing.proofs.Instants.{first-rises, in-order}
+use Rattle.timing.proofs.Instants.{first-rises, made-by, in-order}
 use Rattle.timing.proofs.Jobs.{holds-at, there-live}
 use Rattle.timing.proofs.Cover.{Blocks, Needs, Covered, higher, sleeper, blocked, cover}
 use Rattle.timing.proofs.Executing.{runs-executes, asleep-rests}
@@ -148,18 +148,10 @@ module _ {G : Given} {m i a r b : ℕ} (D : Window G m i a r b) where
   own-part : (f : ℕ → ℕ) → ((t : ℕ) → 0 < f t → during G t .entry i .status ≡ none → ⊥) → count f b (value G i) ≤ count f r (m - r)
   own-part f live = go (find f b (value G i))
     where
-      -- a tick in which the job is there comes after its release
-      later : (t : ℕ) → a < tick G t → r ≤ t
-      later t made = by (decLt t r)
-        where
-          by : Dec (t < r) → r ≤ t
-          by (yes lt) = absurd (omega (arith, D .when .from, first-rises (G .clock) (suc t) r lt))
-          by (no ge) = omega arith
-
       from : (x : ℕ) → x < value G i → count f b x ≡ 0 → Phase (b + x) → 0 < f (b + x) → count f b (value G i) ≤ count f r (m - r)
       from x l z (inr w) p = absurd (live (b + x) p (w .0))
       from x l z (inl h) p =
-          let since = later (b + x) (h .made) in
+          let since = made-by (G .clock) a r (b + x) (D .when) (h .made) in
           let rest = value G i - x in
           let more = m - (b + value G i) in
           let whole : x + rest ≡ value G i = omega arith in

@@ -3,7 +3,7 @@ use Prim.Native.Nat.{ℕ, zero, suc, _≤_, _<_}
 use mathlib.Core.Path.{_≡_, ap}
 use native.Mathlib.Omega.{arith}
 use native.Mathlib.Decide.{decLe, decLt}
-use Rattle.timing.specs.Statement.{Clock, At}
+use Rattle.timing.specs.Statement.{Clock, At, callsBy}
 
 module _ (K : Clock) where
   -- later instants have no fewer calls before them
@@ -24,10 +24,14 @@ module _ (K : Clock) where
       go (yes p) more = let w = more p in (w .0, omega (arith, w .1), w .2)
       go (no p) more = (n, omega arith, record { from = omega arith; till = lt })
 
-  -- calls in order are at instants in order
-  pub in-order : (j k t u : ℕ) → j ≤ k → At K j t → At K k u → t ≤ u
-  in-order j k t u le p q = go (decLt u t)
+  -- a call that is made by the tick t is of an instant up to t
+  pub made-by : (a r t : ℕ) → At K a r → a < callsBy K t → r ≤ t
+  made-by a r t p lt = go (decLe r t)
     where
-      go : Dec (u < t) → t ≤ u
-      go (yes h) = absurd (omega (arith, first-rises (suc u) t h, p .from, q .till))
-      go (no h) = omega arith
+      go : Dec (r ≤ t) → r ≤ t
+      go (yes le) = le
+      go (no gt) = absurd (omega (arith, p .from, first-rises (suc t) r (omega arith)))
+
+  -- so calls in order are at instants in order
+  pub in-order : (j k t u : ℕ) → j ≤ k → At K j t → At K k u → t ≤ u
+  in-order j k t u le p q = made-by j t u p (omega (arith, q .till))

@@ -1,9 +1,9 @@
--- The jobs of a task as a stream, as long as each was over in time.
+-- The jobs of a task as a stream, as long as each was done in time.
 use Prim.Native.Nat.{ℕ, suc, _+_, _-_, _≤_, _<_}
 use mathlib.Core.Path.{_≡_, sym, ap, subst}
 use mathlib.Core.Logic.{_⊎_, inl, inr, ⊎-elim}
 use native.Mathlib.Omega.{arith}
-use native.Mathlib.Decide.{decLe, decLt}
+use native.Mathlib.Decide.{decLt}
 use Rattle.searches.proofs.Testing.{impossible}
 use Rattle.searches.proofs.Sums.{sumTo-add}
 use Rattle.protocol.specs.State.{none}
@@ -13,18 +13,18 @@ use Rattle.protocol.proofs.Runner.{Runs, runs}
 use Rattle.timing.specs.Statement.{At, count}
 use Rattle.timing.proofs.Counts.{count-more}
 use Rattle.timing.proofs.Streams.{Stream}
-use Rattle.timing.proofs.Instants.{first-rises, instant, in-order}
+use Rattle.timing.proofs.Instants.{first-rises, instant, made-by, in-order}
 use Rattle.timing.proofs.Jobs.{live-there, no-second}
 use Rattle.timing.proofs.Executing.{executes-once, rests-once, executes-runs, rests-asleep}
 use Rattle.timing.proofs.Given.{Given, tick, during, exec, rest, task, value, There, apart, works, sleeps, value-room, period-some}
 
 -- Before the tick r + n the job of i that was released at the instant r executed in all its C ticks, and slept through all its S.
-abbrev pub Finished : Given → ℕ → ℕ → ℕ → Type 0
-Finished G i r n = (count (exec G i) r n ≡ task G i .run) × (count (rest G i) r n ≡ task G i .sleep)
+abbrev pub Done : Given → ℕ → ℕ → ℕ → Type 0
+Done G i r n = (count (exec G i) r n ≡ task G i .run) × (count (rest G i) r n ≡ task G i .sleep)
 
 -- Of each job that is there in a tick below m, and was due by then, nothing is left.
 abbrev pub Before : Given → ℕ → Type 0
-Before G m = (i a r n : ℕ) → i < G .table .size → At (G .clock) a r → value G i ≤ n → r + n < m → There G i a (tick G (r + n)) → Finished G i r n
+Before G m = (i a r n : ℕ) → i < G .table .size → At (G .clock) a r → value G i ≤ n → r + n < m → There G i a (tick G (r + n)) → Done G i r n
 
 module _ (G : Given) (i : ℕ) (lt : i < G .table .size) where
   -- ---- who executes or rests has a job
@@ -75,11 +75,7 @@ module _ (G : Given) (i : ℕ) (lt : i < G .table .size) where
 
   -- it was released before
   pub of-born : (ρ t : ℕ) → Of ρ t → ρ ≤ t
-  of-born ρ t o = go (decLe ρ t)
-    where
-      go : Dec (ρ ≤ t) → ρ ≤ t
-      go (yes h) = h
-      go (no h) = absurd (omega (arith, first-rises (G .clock) (suc t) ρ (omega arith), o .1 .from, o .2 .made))
+  of-born ρ t o = made-by (G .clock) (o .0) ρ t (o .1) (o .2 .made)
 
   -- of two ticks the later has the same job, or one that was released T later
   of-order : (ρ σ t u : ℕ) → t ≤ u → (x : Of ρ t) → (y : Of σ u) → (x .0 ≡ y .0) ⊎ (ρ + task G i .period ≤ σ)

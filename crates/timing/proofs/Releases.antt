@@ -3,7 +3,7 @@ use Prim.Native.Nat.{ℕ, suc, _+_, _≤_, _<_}
 use mathlib.Core.Path.{_≡_, refl, sym, ap, subst}
 use mathlib.Core.Bool.{true}
 use native.Mathlib.Omega.{arith}
-use native.Mathlib.Decide.{decLe, decLt, ℕ-discrete}
+use native.Mathlib.Decide.{decLt, ℕ-discrete}
 use lib.Dec.{eqb}
 use borrow.Author.Tests.{eqb-true}
 use Rattle.searches.specs.Searches.{Place, nowhere, at, first}
@@ -21,7 +21,7 @@ use Rattle.protocol.proofs.Invariant.{Unfinished}
 use Rattle.protocol.proofs.Runner.{lawful}
 use Rattle.protocol.proofs.Theorems.{never-unfit}
 use Rattle.timing.specs.Statement.{Clock, seenUnder, OverWithin, AtTheInstant, ReleasedAgain}
-use Rattle.timing.proofs.Instants.{first-rises}
+use Rattle.timing.proofs.Instants.{first-rises, made-by}
 use Rattle.timing.proofs.Jobs.{There, live-there, no-second}
 
 -- a release that is refused with 12 finds a job, and brings nothing about
@@ -95,8 +95,4 @@ module _ {T : Table} (A : Accepted T) (calls : ℕ → Call) (K : Clock) {i a b 
             go (no l) (no q) = omega arith
 
         instant : u ≤ t + v
-        instant = go (decLe u (t + v))
-          where
-            go : Dec (u ≤ t + v) → u ≤ t + v
-            go (yes l) = l
-            go (no l) = absurd (omega (arith, over .2, after-it, again .asked-at .from, first-rises K (suc (t + v)) u (omega arith)))
+        instant = made-by K b u (t + v) (again .asked-at) (omega (arith, over .2, after-it))

@@ -1,4 +1,4 @@
--- What is proved: every job is over in time, and so a release a period after the last one finds its task's job gone.
+-- What is proved: the work of every job is done in time, one that is completed promptly is over in time, and a release a period later finds it gone.
 use Prim.Native.Nat.{ℕ, zero, suc, _+_, _-_, _≤_, _<_}
 use mathlib.Core.Path.{_≡_, refl, sym, ap, subst, fun-ext, _∙_}
 use mathlib.Core.Bool.{Bool, true, false, not, _&&_}
@@ -46,7 +46,7 @@ use Rattle.timing.proofs.Instants.{first-rises, instant}
 use Rattle.timing.proofs.Jobs.{before-release}
 use Rattle.timing.proofs.Figures.{own-figures}
 use Rattle.timing.proofs.Given.{Given, ev, tick, exec, rest, task, value, There, sight, value-room}
-use Rattle.timing.proofs.Pace.{Finished, Before}
+use Rattle.timing.proofs.Pace.{Done, Before}
 use Rattle.timing.proofs.Start.{begin}
 use Rattle.timing.proofs.Window.{Window}
 use Rattle.timing.proofs.Charges.{no-window}
@@ -61,7 +61,7 @@ none-late G zero i a r n lt h due l x = absurd (omega arith)
 none-late G (suc m) i a r n lt h due l x =
     go (none-late G m) (ℕ-discrete (r + n) m) (ℕ-discrete (count (exec G i) r n) (task G i .run)) (ℕ-discrete (count (rest G i) r n) (task G i .sleep))
   where
-    none : r + n ≡ m → Before G m → (Finished G i r n → ⊥) → ⊥
+    none : r + n ≡ m → Before G m → (Done G i r n → ⊥) → ⊥
     none q more left =
         let start = begin G i lt a (before-release (G .accepted) (G .calls) a i lt (x .began)) in
         let w = instant (G .clock) (start .index) (suc r) (omega (arith, start .early, h .till)) in
@@ -73,21 +73,21 @@ none-late G (suc m) i a r n lt h due l x =
           release = x .began;
           when = h;
           due = omega arith;
-          left = λ f. left (subst (Finished G i r) length f);
+          left = λ f. left (subst (Done G i r) length f);
           late = subst (λ y. There G i a (tick G y)) q x;
           start = start;
           from = w .2;
         } in
         no-window D (low-bounded D)
 
-    go : Before G m → Dec (r + n ≡ m) → Dec (count (exec G i) r n ≡ task G i .run) → Dec (count (rest G i) r n ≡ task G i .sleep) → Finished G i r n
+    go : Before G m → Dec (r + n ≡ m) → Dec (count (exec G i) r n ≡ task G i .run) → Dec (count (rest G i) r n ≡ task G i .sleep) → Done G i r n
     go more (no ne) d e = more i a r n lt h due (omega arith) x
     go more (yes q) (yes d) (yes e) = (d, e)
     go more (yes q) (no d) e = absurd (none q more (λ f. d (f .0)))
     go more (yes q) (yes d) (no e) = absurd (none q more (λ f. e (f .1)))
 
 -- so of a job that is there in a tick from its due one on nothing is left
-done-in-time : (G : Given) (i a r n : ℕ) → i < G .table .size → At (G .clock) a r → value G i ≤ n → There G i a (tick G (r + n)) → Finished G i r n
+done-in-time : (G : Given) (i a r n : ℕ) → i < G .table .size → At (G .clock) a r → value G i ≤ n → There G i a (tick G (r + n)) → Done G i r n
 done-in-time G i a r n lt h due x = none-late G (suc (r + n)) i a r n lt h due (omega arith) x
 
 -- and one that is completed promptly is over in time: a call up to then ended it

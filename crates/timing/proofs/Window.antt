@@ -12,7 +12,7 @@ use Rattle.protocol.specs.Trace.{released}
 use Rattle.timing.specs.Statement.{At}
 use Rattle.timing.proofs.Instants.{in-order}
 use Rattle.timing.proofs.Given.{Given, ev, tick, during, runner, value, There}
-use Rattle.timing.proofs.Pace.{Finished, Before}
+use Rattle.timing.proofs.Pace.{Done, Before}
 use Rattle.timing.proofs.Start.{Start}
 
 -- The job of i that the call a released at the instant r is there in the tick m, was due by then, and something is left of it; m is the first tick in
@@ -23,7 +23,7 @@ pub record Window (G : Given) (m i a r b : ℕ) : Type 0 where
   pub release : ev G a ≡ released (priority (G .table) i)
   pub when : At (G .clock) a r
   pub due : r + value G i ≤ m
-  pub left : Finished G i r (m - r) → ⊥
+  pub left : Done G i r (m - r) → ⊥
   pub late : There G i a (tick G m)
   pub start : Start G i a
   pub from : At (G .clock) (start .index) b
