@@ -1,5 +1,5 @@
 -- What is proved of the scheduler's own calls, told by their replies alone: short waits, when idle is replied, and job numbers that tell jobs apart.
-use mathlib.Core.Path.{_≡_, refl, sym, ap, subst, fun-ext, _∙_}
+use mathlib.Core.Path.{_≡_, refl, sym, ap, ap₂, subst, fun-ext, _∙_}
 use mathlib.Core.Logic.{_↔_}
 use mathlib.Core.List.{List}
 use Prim.Native.Nat.{ℕ, zero, suc, _<_}
@@ -85,37 +85,31 @@ module _ {bytes : List ℕ} {h : Shape} {calls : ℕ → Call} {S : ℕ → Sche
   table-is zero = ap tableOf first-is
   table-is (suc k) = ap tableOf (next-is k) ∙ table-is k
 
-  -- its state is the machine's
+  -- the machine's step on what the scheduler shows is that on the machine's own state, where the two are the same
+  step-by : (k : ℕ) → stateOf (S k) ≡ after inForce T calls k
+      → machine.step inForce (tableOf (S k)) (stateOf (S k)) (calls k) ≡ machine.step inForce T (after inForce T calls k) (calls k)
+  step-by k e = ap₂ (λ U s. machine.step inForce U s (calls k)) (table-is k) e
+
+  -- they are: its state is the machine's
   pub state-is : (k : ℕ) → stateOf (S k) ≡ after inForce T calls k
   unfolding after
   state-is zero = ap stateOf first-is ∙ fresh-view bytes h
-  state-is (suc k) =
-      ap stateOf (next-is k)
-      ∙ replied-follows (sizes k) (calls k)
-      ∙ ap (λ U. machine.step inForce U (stateOf (S k)) (calls k) .state) (table-is k)
-      ∙ ap (λ s. machine.step inForce T s (calls k) .state) (state-is k)
+  state-is (suc k) = ap stateOf (next-is k) ∙ replied-follows (sizes k) (calls k) ∙ ap (λ m. m .state) (step-by k (state-is k))
 
   -- its reply tells what the machine's call brings about
   pub event-is : (k : ℕ) → told (R k) (calls k) ≡ event inForce T calls k
   event-is k =
       ap (λ r. told r (calls k)) (D .replies k)
-      ∙ ap (λ U. eventIf (eqb (machine.step inForce U (stateOf (S k)) (calls k) .refusal) 0) (calls k)) (table-is k)
-      ∙ ap (λ s. eventIf (eqb (machine.step inForce T s (calls k) .refusal) 0) (calls k)) (state-is k)
+      ∙ ap (λ m. eventIf (eqb (m .refusal) 0) (calls k)) (step-by k (state-is k))
       ∙ event-told inForce T (after inForce T calls k) (calls k)
 
-  -- and names the job that the machine's names
+  -- names the job that the machine's names
   pub running-is : (k : ℕ) → R k .running ≡ runningOf (machine.step inForce T (after inForce T calls k) (calls k) .running)
-  running-is k =
-      ap (λ r. r .running) (D .replies k)
-      ∙ ap (λ U. runningOf (machine.step inForce U (stateOf (S k)) (calls k) .running)) (table-is k)
-      ∙ ap (λ s. runningOf (machine.step inForce T s (calls k) .running)) (state-is k)
+  running-is k = ap (λ r. r .running) (D .replies k) ∙ ap (λ m. runningOf (m .running)) (step-by k (state-is k))
 
-  -- its refusal is the machine's, too
+  -- and has the machine's refusal
   pub refusal-is : (k : ℕ) → R k .refusal ≡ machine.step inForce T (after inForce T calls k) (calls k) .refusal
-  refusal-is k =
-      ap (λ r. r .refusal) (D .replies k)
-      ∙ ap (λ U. machine.step inForce U (stateOf (S k)) (calls k) .refusal) (table-is k)
-      ∙ ap (λ s. machine.step inForce T s (calls k) .refusal) (state-is k)
+  refusal-is k = ap (λ r. r .refusal) (D .replies k) ∙ ap (λ m. m .refusal) (step-by k (state-is k))
 
   -- what holds of the machine's states and events holds of the scheduler's
   seen : (Q : (ℕ → Table) → (ℕ → State) → (ℕ → Event) → Type 0) → Q (λ k. T) (after inForce T calls) (event inForce T calls)
