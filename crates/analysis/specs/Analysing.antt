@@ -13,14 +13,14 @@ use Rattle.table.specs.Reading.{readTable}
 use Rattle.rounds.specs.System.{System}
 use Rattle.rounds.specs.Rounds.{Progress, answer}
 use Rattle.rounds.specs.Allowance.{Allowed, within, beyond, allowed}
-use Rattle.equations.specs.View.{viewOf, ownSettings}
+use Rattle.equations.specs.View.{ownView}
 use Rattle.equations.specs.Equations.{systemOf}
 use Rattle.analysis.specs.declared.Analysis.{Analysis}
 use Rattle.analysis.specs.Rounding.{bounded}
 
 -- the equations of a table under the settings that its bytes name
 abbrev pub ownSystem : List ℕ → Shape → System
-ownSystem s h = systemOf (viewOf s h (ownSettings s (h .tasks)))
+ownSystem s h = systemOf (ownView s h)
 
 -- a refusal: no tasks, no verdict, and everything else 0
 abbrev pub refusedBy : Refusal → Analysis

@@ -1,7 +1,10 @@
 -- Laws of quotients rounded up.
 use Prim.Native.Nat.{ℕ, zero, suc, _+_, _-_, _*_, _/_, _≤_, _<_}
-use native.Mathlib.Nat.{le-trans, le-div-iff-mul-le, div-mul-le-self, div-zero, div-lt-iff-lt-mul, mul-le-mul, mul-le-mul-left, mul-one, one-mul, add-mul}
+use mathlib.Core.Path.{_≡_, ap}
+use native.Mathlib.Nat.{le-trans, le-div-iff-mul-le, div-mul-le-self, div-zero, div-lt-iff-lt-mul, div-eq-sub-div, div-eq-of-lt}
+use native.Mathlib.Nat.{mul-le-mul, mul-le-mul-left, mul-one, one-mul, add-mul}
 use native.Mathlib.Omega.{arith}
+use native.Mathlib.Decide.{decLe}
 use Rattle.equations.specs.Counting.{ceil}
 
 -- a quotient rises with what is divided
@@ -24,6 +27,17 @@ ceil-self a b h =
 pub product : (a b m n : ℕ) → a ≤ m → b ≤ n → a * b ≤ m * n
 product a b m n p q = mul-le-mul {n₂ = m} {m₂ = n} p q
 
--- a job that has begun counts
+-- one period less is one job less
+pub ceil-step : (a b : ℕ) → 1 ≤ a → 1 ≤ b → ceil a b ≡ suc (ceil (a - b) b)
+ceil-step a b p q = go (decLe b a) (div-eq-sub-div {m = b} {n = a + (b - 1)} q (omega arith))
+  where
+    go : Dec (b ≤ a) → ceil a b ≡ (a + (b - 1) - b) / b + 1 → ceil a b ≡ suc (ceil (a - b) b)
+    go (yes l) e =
+        let d : a + (b - 1) - b ≡ a - b + (b - 1) = omega arith in
+        omega (arith, e, ap (λ z. z / b) d)
+    go (no l) e =
+        omega (arith, e, div-eq-of-lt {n = a + (b - 1) - b} {m = b} (omega arith), div-eq-of-lt {n = a - b + (b - 1)} {m = b} (omega arith))
+
+-- so a job that has begun counts
 pub ceil-some : (a b : ℕ) → 1 ≤ a → 1 ≤ b → 1 ≤ ceil a b
-ceil-some a b p q = le-div-iff-mul-le {k = b} {x = 1} {y = a + (b - 1)} (omega arith) .1 (let e = one-mul b in omega arith)
+ceil-some a b p q = omega (arith, ceil-step a b p q)

@@ -32,3 +32,7 @@ viewOf s h settings = record {
 -- the settings that the bytes themselves name, 0 past the tasks
 abbrev pub ownSettings : List ℕ → ℕ → List ℕ
 ownSettings s n = every (λ i. cond (ltb i n) (taskOf s i .setting) 0) 32 0
+
+-- the bytes of a table with a shape, under the settings that they name
+abbrev pub ownView : List ℕ → Shape → View
+ownView s h = viewOf s h (ownSettings s (h .tasks))

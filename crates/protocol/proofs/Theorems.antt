@@ -1,6 +1,6 @@
 -- What is proved of the lock scheduler: its refusals change nothing, its waits are short, it is idle only behind sleepers, and its job numbers say
 -- whose call it is.
-use mathlib.Core.Path.{_≡_, refl, ap, _∙_}
+use mathlib.Core.Path.{_≡_, refl, sym, ap, _∙_}
 use mathlib.Core.Logic.{_↔_}
 use mathlib.Core.Bool.{true}
 use Prim.Native.Nat.{ℕ, suc, _%_, _<_}
@@ -9,11 +9,10 @@ use borrow.Author.Tests.{eq-eqb}
 use Rattle.searches.specs.Searches.{Place, nowhere, at, only}
 use Rattle.searches.proofs.Testing.{impossible}
 use Rattle.protocol.specs.Tasks.{Table, priority, setting}
-use Rattle.protocol.specs.State.{none, asleep, Entry, State, serial}
+use Rattle.protocol.specs.State.{none, asleep, State, serial}
 use Rattle.protocol.specs.Running.{systemPriority, Rule, inForce, running}
 use Rattle.protocol.specs.Fit.{fit}
 use Rattle.protocol.specs.Checks.{Call, release, resume, lock, unlock, suspend, complete, Ruling, refuse, grant, ruling}
-use Rattle.protocol.specs.Acting.{act, settle}
 use Rattle.protocol.specs.Step.{idle, job, numberAt, answer, step}
 use Rattle.protocol.specs.Accepted.{Accepted, Lawful}
 use Rattle.protocol.specs.Trace.{Event, released, after, event}
@@ -93,20 +92,24 @@ module _ (T : Table) (A : Accepted T) (calls : ℕ → Call) (k : ℕ) where
       → ((j : ℕ) → after inForce T calls k .entry j .status ≡ asleep → ⊥) → running inForce T (after inForce T calls k .entry) ≡ nowhere → ⊥
   never-idle i u n e = let w = someone-sleeps (idle-only e) i u in n (w .0) (w .1)
 
--- a call on a fit state answers idle only where nothing runs after it
+-- a call on a fit state answers the number of the job that runs after it
+pub answers-running : (E : Rule) (T : Table) (s : State) (c : Call) → fit T s ≡ true
+    → step E T s c .running ≡ numberAt T (step E T s c .state .entry) (running E T (step E T s c .state .entry))
+unfolding step
+answers-running E T s c f = go (ruling E T s c)
+  where
+    go : (r : Ruling) → answer E T s c r .running ≡ numberAt T (answer E T s c r .state .entry) (running E T (answer E T s c r .state .entry))
+    go (refuse n) = rw f
+    go (grant i) = refl
+
+-- so it answers idle only where nothing runs
 pub answered-idle : (E : Rule) (T : Table) (s : State) (c : Call) → fit T s ≡ true → step E T s c .running ≡ idle
     → running E T (step E T s c .state .entry) ≡ nowhere
-unfolding step
-answered-idle E T s c f = go (ruling E T s c)
+answered-idle E T s c f e = none-at (running E T (step E T s c .state .entry)) (sym (answers-running E T s c f) ∙ e)
   where
-    none-at : (h : ℕ → Entry) (p : Place) → numberAt T h p ≡ idle → p ≡ nowhere
-    none-at h nowhere e = refl
-    none-at h (at i) e = absurd (impossible cc)
-
-    go : (r : Ruling) → answer E T s c r .running ≡ idle → running E T (answer E T s c r .state .entry) ≡ nowhere
-    go (refuse n) e = none-at (s .entry) (running E T (s .entry)) (rw f at e)
-    go (grant i) e =
-        none-at (settle E T (act T s c i) .entry) (running E T (settle E T (act T s c i) .entry)) e
+    none-at : (p : Place) → numberAt T (step E T s c .state .entry) p ≡ idle → p ≡ nowhere
+    none-at nowhere q = refl
+    none-at (at i) q = absurd (impossible cc)
 
 -- ---- job numbers
 

@@ -182,14 +182,13 @@ module _ {G : Given} {m i a r b : ℕ} (D : Window G m i a r b) where
       let there : There G i a (G .clock .first (r + (m - r))) =
       rw till (has-until (D .late) made (first-rises (G .clock) m (suc m) (omega arith))) in
       go (works G i a r (m - r) (D .inside) (D .when .till) there) (sleeps G i a r (m - r) (D .inside) (D .when .till) there)
-      (ℕ-discrete (count (exec G i) r (m - r)) (task G i .run)) (ℕ-discrete (count (rest G i) r (m - r)) (task G i .sleep))
+      (decLt (count (exec G i) r (m - r) + count (rest G i) r (m - r)) (task G i .run + task G i .sleep))
     where
       go : count (exec G i) r (m - r) ≤ task G i .run → count (rest G i) r (m - r) ≤ task G i .sleep
-          → Dec (count (exec G i) r (m - r) ≡ task G i .run) → Dec (count (rest G i) r (m - r) ≡ task G i .sleep)
+          → Dec (count (exec G i) r (m - r) + count (rest G i) r (m - r) < task G i .run + task G i .sleep)
           → count (exec G i) b (value G i) + count (rest G i) b (value G i) < task G i .run + task G i .sleep
-      go e z (yes p) (yes q) = absurd (D .left (p, q))
-      go e z (no p) d = omega (arith, own-part (exec G i) (exec-live G i (D .inside)), own-part (rest G i) (rest-live G i (D .inside)))
-      go e z (yes p) (no q) = omega (arith, own-part (exec G i) (exec-live G i (D .inside)), own-part (rest G i) (rest-live G i (D .inside)))
+      go e z (yes less) = omega (arith, own-part (exec G i) (exec-live G i (D .inside)), own-part (rest G i) (rest-live G i (D .inside)))
+      go e z (no all) = absurd (D .left (omega arith, omega arith))
 
   -- what is charged to a higher task is what it adds
   added : (j : ℕ) → j < i → count (charge G i j) b (value G i) ≤ addition (view G) i (G .values) (value G i) j

@@ -1,7 +1,6 @@
 -- The job that the last reply before a tick named is the running one.
 use Prim.Native.Nat.{ℕ, zero, suc, _≤_, _<_}
 use mathlib.Core.Path.{_≡_, refl, sym, ap, _∙_}
-use mathlib.Core.Bool.{true}
 use native.Mathlib.Omega.{arith}
 use lib.Dec.{eqb}
 use borrow.Author.Tests.{eqb-true, eq-eqb}
@@ -11,14 +10,13 @@ use Rattle.searches.proofs.Leading.{only-most}
 use Rattle.protocol.specs.Tasks.{Table, priority}
 use Rattle.protocol.specs.State.{asleep, State, fresh, isAsleep}
 use Rattle.protocol.specs.Running.{inForce, running}
-use Rattle.protocol.specs.Fit.{fit}
-use Rattle.protocol.specs.Checks.{Call, Ruling, refuse, grant, ruling}
-use Rattle.protocol.specs.Step.{numberAt, answer, step}
+use Rattle.protocol.specs.Checks.{Call}
+use Rattle.protocol.specs.Step.{numberAt}
 use Rattle.protocol.specs.Accepted.{Accepted}
 use Rattle.protocol.specs.Trace.{after}
 use Rattle.protocol.proofs.Testing.{asleep-is}
 use Rattle.protocol.proofs.Runner.{lawful, Runs, runs}
-use Rattle.protocol.proofs.Theorems.{never-unfit}
+use Rattle.protocol.proofs.Theorems.{never-unfit, answers-running}
 use Rattle.scheduler.specs.Replies.{runningOf}
 use Rattle.timing.specs.Statement.{Clock, callsBy, priorityIn, seenUnder, lastNamed, executes, rests}
 use Rattle.timing.proofs.Counts.{counted}
@@ -36,21 +34,13 @@ none-yet T = go (running inForce T (fresh .entry)) refl
     go (at j) e = absurd (let R : Runs inForce T fresh j = runs e in impossible (cc (R .stands)))
 
 module _ {T : Table} (A : Accepted T) (calls : ℕ → Call) where
-  -- a call's reply names the job that runs after it
-  replied : (k : ℕ) → priorityIn (runningOf (step inForce T (after inForce T calls k) (calls k) .running)) ≡ runningPriority T (after inForce T calls (suc k))
-  unfolding after step
-  replied k = go (after inForce T calls k) (never-unfit inForce lawful T A calls k) (ruling inForce T (after inForce T calls k) (calls k))
-    where
-      go : (s : State) → fit T s ≡ true → (r : Ruling)
-          → priorityIn (runningOf (answer inForce T s (calls k) r .running)) ≡ runningPriority T (answer inForce T s (calls k) r .state)
-      go s f (refuse n) = rw f
-      go s f (grant i) = refl
-
-  -- so the last of k replies does
+  -- the last of k replies names the job that runs after it
   last-is : (k : ℕ) → lastNamed (seenUnder inForce T calls) k ≡ runningPriority T (after inForce T calls k)
   unfolding after
   last-is zero = sym (none-yet T)
-  last-is (suc k) = replied k
+  last-is (suc k) =
+      let s = after inForce T calls k in
+      ap (λ r. priorityIn (runningOf r)) (answers-running inForce T s (calls k) (never-unfit inForce lawful T A calls k))
 
 module _ {T : Table} (A : Accepted T) (calls : ℕ → Call) (K : Clock) (i t : ℕ) where
   -- who executes does so once in a tick

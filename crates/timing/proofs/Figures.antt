@@ -15,7 +15,7 @@ use Rattle.searches.proofs.Searching.{largest-reaches, largest-below}
 use Rattle.table.specs.declared.Shape.{Shape}
 use Rattle.table.specs.declared.Use.{Use}
 use Rattle.table.specs.WellFormed.{taskOf, useOf, userOf, WellFormed}
-use Rattle.equations.specs.View.{View, viewOf, ownSettings}
+use Rattle.equations.specs.View.{ownView}
 use Rattle.equations.specs.Equations as equations
 use Rattle.protocol.specs.Tasks.{Table, priority, setting}
 use Rattle.protocol.specs.Running.{ceiling}
@@ -24,10 +24,6 @@ use Rattle.scheduler.specs.View.{tableOf}
 use Rattle.scheduler.specs.Fresh.{names, timesOf, allTimes, freshOf}
 use Rattle.scheduler.proofs.Loading.{one-task, user-has}
 use Rattle.scheduler.proofs.Beginning.{byte-of}
-
--- the table as the equations see it
-abbrev pub ownView : List ℕ → Shape → View
-ownView s h = viewOf s h (ownSettings s (h .tasks))
 
 -- A use of the resource r by the task at q.
 pub record UseOf (s : List ℕ) (h : Shape) (q r : ℕ) : Type 0 where

@@ -9,7 +9,7 @@ use Rattle.table.specs.declared.Task.{Task}
 use Rattle.table.specs.WellFormed.{taskOf, useOf, userOf, WellFormed}
 use Rattle.rounds.specs.Vector.{at}
 use Rattle.rounds.specs.Answer.{Solution}
-use Rattle.equations.specs.View.{View}
+use Rattle.equations.specs.View.{View, ownView}
 use Rattle.equations.specs.Equations.{rightSide, blocking, additions}
 use Rattle.protocol.specs.Tasks.{Table, priority}
 use Rattle.protocol.specs.State.{State}
@@ -20,7 +20,8 @@ use Rattle.protocol.specs.Trace.{Event, released, after, event, Has, Open}
 use Rattle.timing.specs.Statement.{Clock, At, callsBy, Seen, seenUnder, executes, rests, count, Obeys}
 use Rattle.timing.proofs.Counts.{count-split}
 use Rattle.timing.proofs.Instants.{instant}
-use Rattle.timing.proofs.Figures.{ownView, Figures, user-priority}
+use Rattle.timing.proofs.Jobs as jobs
+use Rattle.timing.proofs.Figures.{Figures, user-priority}
 
 -- A well-formed table and the machine's table of it, calls at instants that keep to it, and values that solve its equations.
 pub record Given : Type 0 where
@@ -57,13 +58,17 @@ module _ (G : Given) where
   abbrev pub runner : ℕ → Place
   runner t = running inForce (G .table) (during t .entry)
 
-  -- 1 where the task at i executes in it
+  -- what is seen of the calls
+  abbrev pub sight : Seen
+  sight = seenUnder inForce (G .table) (G .calls)
+
+  -- 1 where the task at i executes in a tick
   abbrev pub exec : ℕ → ℕ → ℕ
-  exec i t = executes (G .clock) (seenUnder inForce (G .table) (G .calls)) (priority (G .table) i) t
+  exec i t = executes (G .clock) sight (priority (G .table) i) t
 
   -- 1 where that rests in it
   abbrev pub rest : ℕ → ℕ → ℕ
-  rest i t = rests (G .clock) (seenUnder inForce (G .table) (G .calls)) i t
+  rest i t = rests (G .clock) sight i t
 
   -- the figures of the task at i
   abbrev pub task : ℕ → Task
@@ -79,13 +84,9 @@ module _ (G : Given) where
 
   -- After k calls the task at the place i has the job that the call a released.
   abbrev pub There : ℕ → ℕ → ℕ → Type 0
-  There i a k = Has ev (priority (G .table) i) a k
+  There = jobs.There (G .accepted) (G .calls)
 
   -- ---- what the jobs keep to
-
-  -- what is seen of the calls
-  abbrev pub sight : Seen
-  sight = seenUnder inForce (G .table) (G .calls)
 
   -- a task of the machine's table is one of the bytes
   placed : (i : ℕ) → i < G .table .size → i < G .shape .tasks

@@ -1,11 +1,12 @@
 -- How many ticks of a window a stream of jobs can have: released T apart, each over within R, and with B ticks at most.
-use Prim.Native.Nat.{ℕ, zero, suc, _+_, _-_, _*_, _/_, min, _≤_, _<_}
+use Prim.Native.Nat.{ℕ, zero, suc, _+_, _-_, _*_, min, _≤_, _<_}
 use mathlib.Core.Path.{_≡_, sym, ap, subst}
 use mathlib.Core.Logic.{_⊎_, inl, inr, ⊎-elim}
-use native.Mathlib.Nat.{suc-mul, div-eq-sub-div, div-eq-of-lt}
+use native.Mathlib.Nat.{suc-mul}
 use native.Mathlib.Omega.{arith}
-use native.Mathlib.Decide.{decLe, decLt}
+use native.Mathlib.Decide.{decLt}
 use Rattle.equations.specs.Counting.{ceil}
+use Rattle.equations.proofs.Counting.{ceil-step}
 use Rattle.timing.specs.Statement.{count}
 use Rattle.timing.proofs.Counts.{count-split, count-most, find, to-last}
 
@@ -18,17 +19,6 @@ pub record Stream (f : ℕ → ℕ) (Of : ℕ → ℕ → Type 0) (T B R m : ℕ
   pub gap : (ρ σ t u : ℕ) → t ≤ u → Of ρ t → Of σ u → (ρ ≡ σ) ⊎ (ρ + T ≤ σ)
   pub budget : (ρ u n : ℕ) → u + n < m → Of ρ u → Of ρ (u + n) → count f u (suc n) ≤ B
   pub room : (B ≤ R) × (R ≤ T)
-
--- the first period has one job
-ceil-step : (n T : ℕ) → 0 < T → 0 < n → ceil n T ≡ suc (ceil (n - T) T)
-ceil-step n T pos h = go (decLe T n) (div-eq-sub-div {m = T} {n = n + (T - 1)} pos (omega arith))
-  where
-    go : Dec (T ≤ n) → ceil n T ≡ (n + (T - 1) - T) / T + 1 → ceil n T ≡ suc (ceil (n - T) T)
-    go (yes q) e =
-        let d : n + (T - 1) - T ≡ n - T + (T - 1) = omega arith in
-        omega (arith, e, ap (λ z. z / T) d)
-    go (no q) e =
-        omega (arith, e, div-eq-of-lt {n = n + (T - 1) - T} {m = T} (omega arith), div-eq-of-lt {n = n - T + (T - 1)} {m = T} (omega arith))
 
 module _ {f : ℕ → ℕ} {Of : ℕ → ℕ → Type 0} {T B R m : ℕ} (S : Stream f Of T B R m) (pos : 0 < T) where
   -- the jobs that are there in a window were all released from z on
@@ -112,7 +102,7 @@ module _ {f : ℕ → ℕ} {Of : ℕ → ℕ → Type 0} {T B R m : ℕ} (S : St
             w .all,
             w .few,
             more (w .ρ + T) (w .v) (w .r) (a - T) d (omega arith) (omega arith) (omega arith) (w .rest),
-            ap (λ y. y * B) (ceil-step a T pos p),
+            ap (λ y. y * B) (ceil-step a T p pos),
             suc-mul (ceil (a - T) T) B,
           )
       go more (inr w) (no p) =
@@ -134,7 +124,7 @@ module _ {f : ℕ → ℕ} {Of : ℕ → ℕ → Type 0} {T B R m : ℕ} (S : St
             arith,
             w .all,
             fresh-count (w .r) (w .ρ + T) (w .v) (w .r) (n + R - B - T) (B - w .own) (omega arith) (omega arith) (omega arith) (w .rest),
-            ap (λ y. y * B) (ceil-step (n + R - B) T pos (omega arith)),
+            ap (λ y. y * B) (ceil-step (n + R - B) T (omega arith) pos),
             suc-mul (ceil (n + R - B - T) T) B,
           )
 

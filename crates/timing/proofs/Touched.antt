@@ -1,12 +1,12 @@
 -- The sections of a task that a window touches, ranked: by how many of the resource their job had opened before, and by that job.
 use Prim.Native.Nat.{ℕ, suc, _+_, _-_, _*_, _/_, _≤_, _<_}
 use mathlib.Core.Path.{_≡_, sym, ap, _∙_}
-use native.Mathlib.Nat.{suc-mul, add-div-right, mul-add-div-right, div-eq-of-lt}
+use native.Mathlib.Nat.{suc-mul, mul-add-div-right, div-eq-of-lt}
 use native.Mathlib.Omega.{arith}
 use native.Mathlib.Decide.{decLt, ℕ-discrete}
 use Rattle.searches.proofs.Testing.{impossible}
 use Rattle.equations.specs.Counting.{ceil}
-use Rattle.equations.proofs.Counting.{ceil-mono, ceil-some, product}
+use Rattle.equations.proofs.Counting.{ceil-mono, ceil-step, ceil-some, product}
 use Rattle.protocol.specs.Tasks.{priority}
 use Rattle.protocol.specs.Acting.{section}
 use Rattle.protocol.specs.Trace.{released, opened, Open}
@@ -104,12 +104,12 @@ module _ {G : Given} {q r b l : ℕ} (inside : q < G .table .size) where
   later-job x y lt =
       let t = task G q .period in
       let d = x .birth + value G q - b in
-      let e : d + t + (t - 1) ≡ d + (t - 1) + t = omega arith in
+      let e : d + t - t ≡ d = omega arith in
       let far = apart G q (x .release) (y .release) (x .birth) (y .birth) inside lt (x .has .began) (y .has .began) (x .born) (y .born) in
       omega (
         arith,
-        ap (λ z. z / t) e,
-        add-div-right (d + (t - 1)) (period-some G q inside),
+        ap (λ z. ceil z t) e,
+        ceil-step (d + t) t (omega (arith, period-some G q inside)) (period-some G q inside),
         ceil-mono (d + t) (y .birth + value G q - b) t (omega (arith, x .early)),
       )
 
