@@ -23,11 +23,6 @@ use Rattle.timing.proofs.Given.{Given, ev, during, runner, exec, task, 
 use Rattle.timing.proofs.Window.{Window, lowAt, lowTick, window-end}
 use Rattle.timing.proofs.LowSections.{Meets, meets, part, part-most, same-section}
 
--- one where two tests pass
-only-twice : (c d : Bool) → only c (only d 1) ≤ 1
-only-twice true d = only-most d 1
-only-twice false d = omega arith
-
 module _ {G : Given} {m i a r b : ℕ} (D : Window G m i a r b) where
   -- 1 in a low tick of the stretch x
   abbrev lowIn : ℕ → ℕ → ℕ
@@ -48,7 +43,11 @@ module _ {G : Given} {m i a r b : ℕ} (D : Window G m i a r b) where
   -- one for a tick at most
   low-once : (x t : ℕ) → lowIn x t ≤ 1
   low-once x t =
-      only-twice (eqb (part D t) x) (not (isAsleep (during G t .entry i .status)) && lowAt (G .table) (during G t) i (runner G t))
+      omega (
+        arith,
+        only-most (eqb (part D t) x) (lowTick G i t),
+        only-most (not (isAsleep (during G t .entry i .status)) && lowAt (G .table) (during G t) i (runner G t)) 1,
+      )
 
   -- each low tick is in a block
   pub in-blocks : count (lowTick G i) b (value G i) ≤ count size 0 (1 + task G i .sleeps)
