@@ -72,6 +72,12 @@ class Door(unittest.TestCase):
         self.spare = self.folder / "spare"
         self.spare.mkdir()
 
+    # Begin anew in another folder.
+    def fresh(self):
+        self.tearDown()
+        self.doCleanups()
+        self.setUp()
+
     # What each crate stands on, of those that crates.txt lists.
     def crates(self):
         lines = (ROOT / "crates.txt").read_text().splitlines()
@@ -170,3 +176,11 @@ class Door(unittest.TestCase):
     # Nothing is left behind in the folder for temporary files.
     def tearDown(self):
         self.assertEqual(list(self.spare.iterdir()), [])
+
+
+# A front door with all programs built, which proves nothing.
+class Built(Door):
+    # Put the programs there.
+    def setUp(self):
+        super().setUp()
+        self.built()

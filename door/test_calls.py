@@ -4,7 +4,7 @@ import os
 import subprocess
 import unittest
 
-from fixtures import TABLE, TEXT, YES, Door
+from fixtures import TABLE, TEXT, YES, Built, Door
 
 TASK = b"task 1 setting 0 sleeps 0 run 5 sleep 0 deadline 5 period 5\n"
 
@@ -26,7 +26,8 @@ class Words(Door):
         page = self.call("help")
         self.assertIn(b"\nExit status: 0  answered", page.out)
         self.assertIn(b" 3  bounds: the verdict is no\n", page.out)
-        for words in ("help",), ("--help",), ("-h",), ("help", "bounds"), ("bounds", "help"), ("pack", "--help"), ("show", "-h"), ("test", "--help"):
+        for line in "help", "--help", "-h", "help bounds", "bounds help", "pack --help", "show -h", "test --help", "bounds --help":
+            words = line.split()
             with self.subTest(words=words):
                 self.assert_answer(self.call(*words), 0, page.out)
         self.assertFalse((self.root / "target").exists())
@@ -55,12 +56,7 @@ class Words(Door):
 
 
 # Files by whatever name, and the door by whatever path.
-class Names(Door):
-    # All programs stand.
-    def setUp(self):
-        super().setUp()
-        self.built()
-
+class Names(Built):
     # A file is read whatever its name is.
     def test_odd_names(self):
         for name in "-x", "--", "-", "--help", "help", "a b", "a\nb", "$(x)", "*", "'", "naïve":

@@ -6,7 +6,7 @@ import signal
 import subprocess
 import unittest
 
-from fixtures import TABLE, YES, Door
+from fixtures import TABLE, YES, Built
 
 # One byte more than the longest text.
 MOST = 262145
@@ -14,12 +14,7 @@ COMMENTED = b"#task 9\ntask 1\n"
 
 
 # Inputs that can be read.
-class Readable(Door):
-    # All programs stand.
-    def setUp(self):
-        super().setUp()
-        self.built()
-
+class Readable(Built):
     # The programs read every byte of a pipe: pack the input, bounds what pack printed.
     def test_pipe_as_file(self):
         path = self.file(COMMENTED)
@@ -90,12 +85,7 @@ class Readable(Door):
 
 
 # Inputs that can't be read, and no room for a copy: status 2, and no program is run.
-class Unreadable(Door):
-    # All programs stand.
-    def setUp(self):
-        super().setUp()
-        self.built()
-
+class Unreadable(Built):
     # See to it that nothing was run.
     def tearDown(self):
         self.assertEqual((self.ran(), self.proved()), ([], []))
@@ -135,8 +125,9 @@ class Unreadable(Door):
     # A call that is ended while it reads leaves nothing behind, and isn't answered.
     def test_ended(self):
         for number in signal.SIGTERM, signal.SIGINT, signal.SIGHUP:
-            call = subprocess.Popen([self.root / "quasdrom", "bounds"], stdin=subprocess.PIPE, stdout=subprocess.PIPE, stderr=subprocess.DEVNULL,
-                                    env=self.around(), start_new_session=True)
+            call = subprocess.Popen([self.root / "quasdrom", "bounds"], stdin=subprocess.PIPE, stdout=subprocess.PIPE,
+                                    stderr=subprocess.DEVNULL, env=self.around(), start_new_session=True,
+                                    preexec_fn=lambda: signal.signal(number, signal.SIG_DFL))
             while not list(self.spare.glob("*/input")):
                 pass
             os.killpg(call.pid, number)

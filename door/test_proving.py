@@ -4,6 +4,7 @@ import fcntl
 import os
 import pty
 import re
+import shutil
 import subprocess
 import threading
 import time
@@ -36,11 +37,10 @@ class Proving(Door):
 
     # On first use all crates of the programs are proved, told as plain lines; the next call proves nothing and tells nothing.
     def test_first_use(self):
-        for command, data, programs in ("bounds", TASK, ["pack", "bounds"]), ("bounds", TABLE, ["bounds"]), ("pack", TASK, ["pack"]), ("show", TABLE, ["show"]):
+        for command, data, programs in ("bounds", TASK, ["pack", "bounds"]), ("bounds", TABLE, ["bounds"]), ("pack", TASK, ["pack"]), \
+                ("show", TABLE, ["show"]):
             with self.subTest(command=command, data=data):
-                self.tearDown()
-                self.doCleanups()
-                self.setUp()
+                self.fresh()
                 outcome = self.call(command, data=data)
                 self.assertEqual(outcome.status, 0)
                 crates = self.needed(*programs)
@@ -55,11 +55,12 @@ class Proving(Door):
 
     # Crates that can be proved side by side are, as many as there are processors.
     def test_side_by_side(self):
-        for body, most in ("echo 3", 3), ("echo 1", 1), ("exit 1", 1):
+        for body, most in ("echo 3", 3), ("echo 1", 1), ("exit 1", 1), ("exit 0", 1), ("echo 0", 1):
             self.script(self.tools / "nproc", f"#!/bin/sh\n{body}\n")
             (self.root / "crates/searches/lib.rt").touch()
             crates = self.needed("pack", "bounds")
-            for names, _ in told(self.call("bounds", data=TASK).told.splitlines()[1:-1]):
+            lines = [line for line in self.call("bounds", data=TASK).told.splitlines() if " left" in line]
+            for names, _ in told(lines):
                 ready = {name for name in crates if not set(self.crates()[name]) & crates}
                 self.assertLessEqual(set(names), ready)
                 self.assertEqual(len(names), min(most, len(ready)))
@@ -97,7 +98,8 @@ class Proving(Door):
     def test_taken_away(self):
         self.call("bounds", data=TABLE)
         (self.root / "crates/lines/lib.rt").unlink()
-        self.assert_told(self.call("bounds", data=TABLE).told.splitlines()[:-1], {name for name in self.needed("bounds") if "lines" in self.needed(name)})
+        above = {name for name in self.needed("bounds") if "lines" in self.needed(name)}
+        self.assert_told(self.call("bounds", data=TABLE).told.splitlines()[:-1], above)
 
     # An edit while the proofs run is seen by the next call.
     def test_edit_meanwhile(self):
@@ -129,7 +131,8 @@ class Proving(Door):
         self.program("bounds", YES)
         self.script(self.root / "target/bin/bounds", (self.folder / "program.bounds").read_text())
         outcome = self.call("bounds", data=TABLE)
-        self.assert_trouble(outcome, "rt: lines NOT PROVED\nquasdrom: lines cannot be proved; target/door/log has all that was said\n")
+        reason = f"quasdrom: lines cannot be proved; {self.root.resolve()}/target/door/log has all that was said\n"
+        self.assert_trouble(outcome, f"rt: lines NOT PROVED\n{reason}")
         self.assertEqual(self.ran(), [])
         self.assertIn("rt: lines NOT PROVED", (self.root / "target/door/log").read_text())
         self.toolchain()
@@ -148,9 +151,11 @@ class Proving(Door):
 
     # A copy of the door outside its house.
     def test_copied(self):
-        (self.root / "crates.txt").unlink()
-        self.assert_trouble(self.call("bounds", data=TABLE), "has no crates to prove")
-        self.assertFalse((self.root / "target").exists())
+        alone = self.folder / "alone"
+        alone.mkdir()
+        shutil.copy(self.root / "quasdrom", alone)
+        self.assert_trouble(self.call("bounds", data=TABLE, door=alone / "quasdrom"), "alone has no crates beside quasdrom: link to it")
+        self.assertEqual(list(alone.iterdir()), [alone / "quasdrom"])
 
     # A house in which nothing can be written.
     def test_not_writable(self):
@@ -175,6 +180,12 @@ class Proving(Door):
         caller.join(PATIENCE)
         self.assertEqual((outcomes[0].out, outcomes[0].told), (YES, "quasdrom: waiting for another ./quasdrom, which is proving\n"))
         self.assertEqual(self.proved(), [])
+
+    # That nothing can be told doesn't alter an answer.
+    def test_untold(self):
+        with open("/dev/full", "wb") as full:
+            outcome = self.call("bounds", data=TASK, stderr=full)
+        self.assertEqual((outcome.status, outcome.out), (0, YES))
 
     # Commands that stand behind each other in a pipe, on first use.
     def test_piped_commands(self):
@@ -232,7 +243,8 @@ class Terminal(Door):
         self.toolchain(failing="lines")
         outcome, text = self.on_terminal("bounds")
         self.assertEqual((outcome.status, outcome.out), (2, b""))
-        self.assertEqual(self.shown(text)[2:], ["rt: lines NOT PROVED", "quasdrom: lines cannot be proved; target/door/log has all that was said", ""])
+        reason = f"quasdrom: lines cannot be proved; {self.root.resolve()}/target/door/log has all that was said"
+        self.assertEqual(self.shown(text)[2:], ["rt: lines NOT PROVED", reason, ""])
 
     # Where nothing is to be proved nothing is told.
     def test_nothing(self):

@@ -1,25 +1,32 @@
 """What the front door makes of an input's kind and of the programs' replies: which are run, what is printed, with which status it ends."""
 
+import os
+import shutil
 import unittest
 
-from fixtures import ANSWERS, NO, PROGRAMS, TABLE, TEXT, YES, Door
+from fixtures import ANSWERS, NO, PROGRAMS, TABLE, TEXT, YES, Built, Door
 
 REFUSED = b"refused 6 at 48\n"
 FAULT = b"line 4: deadline 30 is above the period 20\n"
 TASK = "task 1 setting 0 sleeps 0 run 5 sleep 0 deadline 5 period 5\n"
 # First bytes on both sides of each step from one kind to another.
 FIRST = (0, 1, 2, 3, 4, 8, 9, 10, 11, 12, 13, 14, 31, 32, 33, 48, 127, 128, 160, 238, 239, 240, 254, 255)
+# Replies of the programs, with their statuses.
+STATUSES = [("bounds", YES, 0), ("bounds", NO, 3), ("bounds", REFUSED, 1), ("show", TEXT, 0), ("show", REFUSED, 1), ("pack", TABLE, 0),
+            ("pack", FAULT, 1)]
+# What is no program's reply.
+NOTHING = (b"", b"verdict", b"verdict\n", b"verdict yesterday\n", b"verdict none\n", b"refused", b"line")
+# How a program fails, and what is told of that.
+ENDINGS = {"exit 1": "failed with status 1", "exit 3": "failed with status 3", "echo no >&2; exit 4": "failed with status 4: no",
+           "kill -SEGV $$": "was ended by signal 11", "kill -KILL $$": "was ended by signal 9"}
+# The system's tools that the scripts call.
+TOOLS = ("cat", "find", "flock", "head", "mkdir", "mktemp", "nproc", "od", "readlink", "rm", "sed", "tail", "touch", "tr", "uname")
 # For each command an input that its program is run on.
 INPUTS = {"bounds": TABLE, "pack": TASK.encode(), "show": TABLE}
 
 
 # Inputs of each kind.
-class Kinds(Door):
-    # All programs stand.
-    def setUp(self):
-        super().setUp()
-        self.built()
-
+class Kinds(Built):
     # The programs that a command runs on an input.
     def runs(self, command, data):
         self.forget()
@@ -53,8 +60,8 @@ class Kinds(Door):
 
     # Whatever is asked for, a byte-order mark and wide characters are named.
     def test_wide(self):
-        for code, reason in ("utf-8-sig", "begins with a byte-order mark"), ("utf-16", "looks like UTF-16"), ("utf-16-le", "looks like UTF-16"), \
-                ("utf-16-be", "looks like UTF-16"), ("utf-32", "looks like UTF-16"), ("utf-32-le", "looks like UTF-16"):
+        for code in "utf-8-sig", "utf-16", "utf-16-le", "utf-16-be", "utf-32", "utf-32-le":
+            reason = "begins with a byte-order mark" if code == "utf-8-sig" else "looks like UTF-16"
             for text in TASK, "\t" + TASK, "# " + TASK, "\N{BYTE ORDER MARK}" + TASK, "\n" + TASK:
                 if code == "utf-16-be" and text[0] in "\t\n":
                     continue
@@ -91,16 +98,10 @@ class Kinds(Door):
 
 
 # Replies, and what is none.
-class Replies(Door):
-    # All programs stand.
-    def setUp(self):
-        super().setUp()
-        self.built()
-
+class Replies(Built):
     # A reply is printed as it is, with its status.
     def test_statuses(self):
-        for command, reply, status in ("bounds", YES, 0), ("bounds", NO, 3), ("bounds", REFUSED, 1), ("show", TEXT, 0), ("show", REFUSED, 1), \
-                ("pack", TABLE, 0), ("pack", FAULT, 1):
+        for command, reply, status in STATUSES:
             with self.subTest(command=command, reply=reply):
                 self.program(command, reply)
                 self.assert_answer(self.call(command, data=INPUTS[command]), status, reply)
@@ -127,8 +128,7 @@ class Replies(Door):
     # A program that fails, by a status or by a signal, gives no answer, whatever it printed.
     def test_failed(self):
         for program in PROGRAMS:
-            for ending, told in ("exit 1", "failed with status 1"), ("exit 3", "failed with status 3"), ("echo no >&2; exit 4", "failed with status 4: no"), \
-                    ("kill -SEGV $$", "was ended by signal 11"), ("kill -KILL $$", "was ended by signal 9"), ("kill -PIPE $$", "was ended by signal 13"):
+            for ending, told in ENDINGS.items():
                 for reply in ANSWERS[program], b"":
                     with self.subTest(program=program, ending=ending, reply=reply):
                         self.program(program, reply, ending)
@@ -147,7 +147,7 @@ class Replies(Door):
     def test_no_reply(self):
         others = {"bounds": (TABLE, TEXT, FAULT), "pack": (YES, REFUSED, TEXT, b"\x02", b"\n"), "show": (YES, TABLE, FAULT)}
         for program in PROGRAMS:
-            for reply in (b"", b"verdict", b"verdict\n", b"verdict yesterday\n", b"verdict none\n", b"refused", b"line", b"\x00" + ANSWERS[program], *others[program]):
+            for reply in NOTHING + (b"\x00" + ANSWERS[program],) + others[program]:
                 with self.subTest(program=program, reply=reply):
                     self.program(program, reply)
                     self.assert_trouble(self.call(program, data=INPUTS[program]), f"quasdrom: {program} ended without an answer\n")
@@ -158,7 +158,8 @@ class Replies(Door):
         tools = self.folder / "kit/on/aarch64/toolchain"
         (tools / "bin").mkdir(parents=True)
         self.script(self.tools / "uname", "#!/bin/sh\necho aarch64\n")
-        self.script(tools / "bin/qemu-x86_64", f'#!/bin/sh\n[ "$1 $2 $3" = "{tools}/lib/ld-linux-x86-64.so.2 --library-path {tools}/lib" ] && exec "$4"\n')
+        words = f"{tools}/lib/ld-linux-x86-64.so.2 --library-path {tools}/lib"
+        self.script(tools / "bin/qemu-x86_64", f'#!/bin/sh\n[ "$1 $2 $3" = "{words}" ] && exec "$4"\n')
         self.assert_answer(self.call("bounds", data=INPUTS["bounds"]), 0, YES)
         self.assertEqual(self.read_by("bounds"), INPUTS["bounds"])
         self.script(self.tools / "rt", "#!/bin/sh\nexit 2\n")
@@ -176,20 +177,19 @@ class Replies(Door):
 
 
 # Answers that can't be written.
-class Outputs(Door):
-    # All programs stand.
-    def setUp(self):
-        super().setUp()
-        self.built()
-
-    # To a full device, a closed descriptor, a pipe that nobody reads: trouble, whatever the answer is.
+class Outputs(Built):
+    # To a full device, a pipe that nobody reads, a closed descriptor: trouble, whatever the answer is.
     def test_unwritten(self):
         for command, data in INPUTS.items():
-            path = self.file(data)
-            for out, reason in (">/dev/full", "the answer cannot be written: No space left on device"), (">&-", "standard output is closed"), \
-                    ("> >(exec <&-; sleep 0.3)", "the answer cannot be written"):
-                with self.subTest(command=command, out=out):
-                    self.assert_trouble(self.shell(f'sleep_first() {{ sleep 0.1; exec "$@"; }}; sleep_first "$door" {command} "{path}" {out}'), reason)
+            with self.subTest(command=command), open("/dev/full", "wb") as full:
+                ours, theirs = os.pipe()
+                os.close(ours)
+                for out, reason in (full, ": No space left on device"), (theirs, ""):
+                    outcome = self.call(command, data=data, stdout=out)
+                    self.assertEqual(outcome.status, 2)
+                    self.assertRegex(outcome.told, f"^quasdrom: the answer cannot be written{reason}")
+                os.close(theirs)
+                self.assert_trouble(self.shell(f'"$door" {command} "{self.file(data)}" >&-'), "standard output is closed")
 
     # No room for what a program prints is trouble, though the program ends well.
     def test_no_room(self):
@@ -206,6 +206,28 @@ class Outputs(Door):
         self.assert_answer(self.shell(f'"$door" bounds "{path}" 2>&-'), 0, YES)
         self.program("bounds", REFUSED)
         self.assert_answer(self.shell(f'"$door" bounds "{path}" 2>&-'), 1, REFUSED)
+
+
+# The system's tools that the scripts call, each failing.
+class Tools(Door):
+    # With a tool that fails there is the right answer or none: with all programs built, with an edit since, and with nothing proved.
+    def test_failing(self):
+        for tool in TOOLS:
+            for state in "built", "edited", "new":
+                with self.subTest(tool=tool, state=state):
+                    self.fresh()
+                    if state != "new":
+                        self.built()
+                    if state == "edited":
+                        (self.root / "crates/table/lib.rt").touch()
+                    self.script(self.tools / tool, "#!/bin/bash\nexit 1\n")
+                    outcome = self.call("bounds", data=TASK.encode())
+                    for left in self.spare.iterdir():
+                        shutil.rmtree(left)
+                    self.assertIn((outcome.status, outcome.out), ((0, YES), (2, b"")))
+                    if outcome.status == 0:
+                        self.assertEqual((self.read_by("pack"), self.read_by("bounds")), (TASK.encode(), TABLE))
+                        self.assertTrue(state == "built" or self.proved())
 
 
 if __name__ == "__main__":
