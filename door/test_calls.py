@@ -84,6 +84,18 @@ class Names(Built):
                 self.assert_answer(self.call("bounds", *words, data=TABLE, cwd=self.folder), 0, YES)
                 self.assertEqual(self.read_by("bounds"), TABLE)
 
+    # The caller's shell options, and the name of the folder for temporary files, alter nothing.
+    def test_caller(self):
+        (self.folder / "-x").mkdir()
+        for more in {"POSIXLY_CORRECT": "1"}, {"SHELLOPTS": "errexit:noclobber:posix"}, {"TMPDIR": "-x"}:
+            with self.subTest(more=more):
+                around = self.around(**more)
+                (self.root / "crates/table/lib.rt").touch()
+                outcome = self.call("bounds", data=TASK, around=around, cwd=self.folder)
+                self.assertEqual((outcome.status, outcome.out), (0, YES))
+                self.assert_trouble(self.call("bounds", "nothing", around=around, cwd=self.folder), "nothing cannot be read: No such file or directory")
+                self.assert_trouble(self.call("bounds", "/", around=around, cwd=self.folder), "/ cannot be copied: Is a directory")
+
     # A name is told so that it can be read.
     def test_told_names(self):
         self.assert_trouble(self.call("bounds", "a\n\x1b[2Jb", cwd=self.folder), "quasdrom: $'a\\n\\E[2Jb' cannot be read: No such file")
