@@ -14,6 +14,8 @@ YES = b"verdict yes evaluations 1\n1 bound 5 deadline 5\n"
 NO = b"verdict no evaluations 0\n1 none deadline 5\n"
 TABLE = bytes([1, 1, 0, 0, 5, 0, 0, 0, 0, 0, 0, 0, 5, 0, 0, 0, 5, 0, 0, 0, 3])
 TEXT = b"# A task table\ntask 1\n"
+# An input that is a text.
+TASK = b"task 1 setting 0 sleeps 0 run 5 sleep 0 deadline 5 period 5\n"
 ANSWERS = {"bounds": YES, "pack": TABLE, "show": TEXT}
 # How long a call may take before it counts as hanging.
 PATIENCE = 60
@@ -105,6 +107,12 @@ class Door(unittest.TestCase):
         built = self.root / "target/bin" / name
         if built.exists():
             shutil.copy(self.folder / f"program.{name}", built)
+
+    # A path with nothing on it but the toolchain's stand-in, if it is there, and these tools.
+    def bare_path(self, *tools):
+        for tool in tools:
+            (self.tools / tool).symlink_to(shutil.which(tool))
+        return str(self.tools)
 
     # Write a script that can be run.
     def script(self, path, text):

@@ -4,9 +4,10 @@ import os
 import resource
 import signal
 import subprocess
+import time
 import unittest
 
-from fixtures import TABLE, YES, Built
+from fixtures import PATIENCE, TABLE, YES, Built
 
 # One byte more than the longest text.
 MOST = 262145
@@ -128,10 +129,11 @@ class Unreadable(Built):
             call = subprocess.Popen([self.root / "quasdrom", "bounds"], stdin=subprocess.PIPE, stdout=subprocess.PIPE,
                                     stderr=subprocess.DEVNULL, env=self.around(), start_new_session=True,
                                     preexec_fn=lambda: signal.signal(number, signal.SIG_DFL))
-            while not list(self.spare.glob("*/input")):
-                pass
+            end = time.monotonic() + PATIENCE
+            while not list(self.spare.glob("*/input")) and time.monotonic() < end:
+                time.sleep(0.01)
             os.killpg(call.pid, number)
-            self.assertEqual(call.communicate(timeout=10), (b"", None))
+            self.assertEqual(call.communicate(timeout=PATIENCE), (b"", None))
             self.assertNotIn(call.returncode, (0, 1, 3))
 
 

@@ -6,13 +6,10 @@ import pty
 import re
 import shutil
 import subprocess
-import threading
-import time
 import unittest
 
-from fixtures import NO, PATIENCE, TABLE, YES, Door
+from fixtures import NO, PATIENCE, TABLE, TASK, YES, Door
 
-TASK = b"task 1 setting 0 sleeps 0 run 5 sleep 0 deadline 5 period 5\n"
 LINE = re.compile(r"quasdrom: proving (\w+(?:, \w+)*(?: and \w+)?), (\d+) left")
 
 
@@ -65,6 +62,7 @@ class Proving(Door):
                 self.assertLessEqual(set(names), ready)
                 self.assertEqual(len(names), min(most, len(ready)))
                 crates -= set(names)
+            self.assertEqual(crates, set())
 
     # What is proved already isn't told again: another program needs what is new to it.
     def test_rest(self):
@@ -138,16 +136,15 @@ class Proving(Door):
         self.toolchain()
         self.assertEqual(self.call("bounds", data=TABLE).out, YES)
 
-    # Without the toolchain, without crates, or where nothing can be written: trouble, and no folder is made.
+    # Without the toolchain: trouble, and no folder is made; but what is built already answers.
     def test_no_toolchain(self):
         (self.tools / "rt").unlink()
-        for word in ("bash", "cat", "env", "find", "head", "mkdir", "mktemp", "od", "readlink", "rm", "tail", "tr", "uname"):
-            os.symlink(subprocess.check_output(["which", word], text=True).strip(), self.tools / word)
-        outcome = self.call("bounds", data=TABLE, around=self.around(PATH=str(self.tools)))
-        self.assert_trouble(outcome, "the Rattle toolchain's command rt is not on the PATH")
+        tools = ("bash", "cat", "env", "find", "head", "mkdir", "mktemp", "od", "readlink", "rm", "tail", "tr", "uname")
+        around = self.around(PATH=self.bare_path(*tools))
+        self.assert_trouble(self.call("bounds", data=TABLE, around=around), "the Rattle toolchain's command rt is not on the PATH")
         self.assertFalse((self.root / "target").exists())
         self.built()
-        self.assert_answer(self.call("bounds", data=TABLE, around=self.around(PATH=str(self.tools))), 0, YES)
+        self.assert_answer(self.call("bounds", data=TABLE, around=around), 0, YES)
 
     # A copy of the door outside its house.
     def test_copied(self):
@@ -169,16 +166,14 @@ class Proving(Door):
         (self.root / "target/door").mkdir(parents=True)
         with open(self.root / "target/door/turn", "wb") as turn:
             fcntl.flock(turn, fcntl.LOCK_EX)
-            outcomes = []
-            caller = threading.Thread(target=lambda: outcomes.append(self.call("bounds", data=TABLE)))
-            caller.start()
-            time.sleep(0.5)
-            self.assertEqual((outcomes, self.proved()), ([], []))
+            call = subprocess.Popen([self.root / "quasdrom", "bounds", self.file(TABLE)], env=self.around(), stdout=subprocess.PIPE,
+                                    stderr=subprocess.PIPE)
+            self.assertEqual(call.stderr.readline(), b"quasdrom: waiting for another ./quasdrom, which is proving\n")
+            self.assertEqual((call.poll(), self.proved()), (None, []))
             (self.root / "target/bin").mkdir()
             self.script(self.root / "target/bin/bounds", (self.folder / "program.bounds").read_text())
             (self.root / "target/door/bounds").touch()
-        caller.join(PATIENCE)
-        self.assertEqual((outcomes[0].out, outcomes[0].told), (YES, "quasdrom: waiting for another ./quasdrom, which is proving\n"))
+        self.assertEqual(call.communicate(timeout=PATIENCE), (YES, b""))
         self.assertEqual(self.proved(), [])
 
     # That nothing can be told doesn't alter an answer.

@@ -4,11 +4,10 @@ import os
 import shutil
 import unittest
 
-from fixtures import ANSWERS, NO, PROGRAMS, TABLE, TEXT, YES, Built, Door
+from fixtures import ANSWERS, NO, PROGRAMS, TABLE, TASK, TEXT, YES, Built, Door
 
 REFUSED = b"refused 6 at 48\n"
 FAULT = b"line 4: deadline 30 is above the period 20\n"
-TASK = "task 1 setting 0 sleeps 0 run 5 sleep 0 deadline 5 period 5\n"
 # First bytes on both sides of each step from one kind to another.
 FIRST = (0, 1, 2, 3, 4, 8, 9, 10, 11, 12, 13, 14, 31, 32, 33, 48, 127, 128, 160, 238, 239, 240, 254, 255)
 # Replies of the programs, with their statuses.
@@ -22,7 +21,7 @@ ENDINGS = {"exit 1": "failed with status 1", "exit 3": "failed with status 3", "
 # The system's tools that the scripts call.
 TOOLS = ("cat", "find", "flock", "head", "mkdir", "mktemp", "nproc", "od", "readlink", "rm", "sed", "tail", "touch", "tr", "uname")
 # For each command an input that its program is run on.
-INPUTS = {"bounds": TABLE, "pack": TASK.encode(), "show": TABLE}
+INPUTS = {"bounds": TABLE, "pack": TASK, "show": TABLE}
 
 
 # Inputs of each kind.
@@ -62,7 +61,7 @@ class Kinds(Built):
     def test_wide(self):
         for code in "utf-8-sig", "utf-16", "utf-16-le", "utf-16-be", "utf-32", "utf-32-le":
             reason = "begins with a byte-order mark" if code == "utf-8-sig" else "looks like UTF-16"
-            for text in TASK, "\t" + TASK, "# " + TASK, "\N{BYTE ORDER MARK}" + TASK, "\n" + TASK:
+            for text in [first + TASK.decode() for first in ("", "\t", "# ", "\N{BYTE ORDER MARK}", "\n")]:
                 if code == "utf-16-be" and text[0] in "\t\n":
                     continue
                 for command in PROGRAMS:
@@ -93,7 +92,7 @@ class Kinds(Built):
     def test_told_first(self):
         for name in PROGRAMS:
             (self.root / "target/door" / name).unlink()
-        self.assert_trouble(self.call("show", data=TASK.encode()), "begins like a text")
+        self.assert_trouble(self.call("show", data=TASK), "begins like a text")
         self.assertEqual(self.proved(), [])
 
 
@@ -116,14 +115,14 @@ class Replies(Built):
     # Of a text at fault the fault is told, and no bounds are sought.
     def test_fault_of_bounds(self):
         self.program("pack", FAULT)
-        self.assert_answer(self.call("bounds", data=TASK.encode()), 1, FAULT)
+        self.assert_answer(self.call("bounds", data=TASK), 1, FAULT)
         self.assertEqual(self.ran(), ["pack"])
 
     # Of a text that is packed the reply is that of the bounds program.
     def test_bounds_of_text(self):
         for reply, status in (YES, 0), (NO, 3), (REFUSED, 1):
             self.program("bounds", reply)
-            self.assert_answer(self.call("bounds", data=TASK.encode()), status, reply)
+            self.assert_answer(self.call("bounds", data=TASK), status, reply)
 
     # A program that fails, by a status or by a signal, gives no answer, whatever it printed.
     def test_failed(self):
@@ -140,7 +139,7 @@ class Replies(Built):
         for ending in "exit 1", "kill -SEGV $$":
             self.program("pack", TABLE, ending)
             self.forget()
-            self.assert_trouble(self.call("bounds", data=TASK.encode()), "quasdrom: pack ")
+            self.assert_trouble(self.call("bounds", data=TASK), "quasdrom: pack ")
             self.assertEqual(self.ran(), ["pack"])
 
     # A program that ends well without a reply of its own form gives no answer.
@@ -219,14 +218,15 @@ class Tools(Door):
                     if state != "new":
                         self.built()
                     if state == "edited":
-                        (self.root / "crates/table/lib.rt").touch()
+                        for name in PROGRAMS:
+                            os.utime(self.root / "target/door" / name, (1, 1))
                     self.script(self.tools / tool, "#!/bin/bash\nexit 1\n")
-                    outcome = self.call("bounds", data=TASK.encode())
+                    outcome = self.call("bounds", data=TASK)
                     for left in self.spare.iterdir():
                         shutil.rmtree(left)
                     self.assertIn((outcome.status, outcome.out), ((0, YES), (2, b"")))
                     if outcome.status == 0:
-                        self.assertEqual((self.read_by("pack"), self.read_by("bounds")), (TASK.encode(), TABLE))
+                        self.assertEqual((self.read_by("pack"), self.read_by("bounds")), (TASK, TABLE))
                         self.assertTrue(state == "built" or self.proved())
 
 
