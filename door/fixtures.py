@@ -18,7 +18,7 @@ TEXT = b"# A task table\ntask 1\n"
 TASK = b"task 1 setting 0 sleeps 0 run 5 sleep 0 deadline 5 period 5\n"
 ANSWERS = {"bounds": YES, "pack": TABLE, "show": TEXT}
 # How long a call may take before it counts as hanging.
-PATIENCE = 60
+PATIENCE = 30
 
 # A stand-in for a program: it keeps what it reads, prints a reply, and ends as it is told.
 PROGRAM = """#!/bin/sh

@@ -5,7 +5,9 @@ import os
 import pty
 import re
 import shutil
+import signal
 import subprocess
+import threading
 import unittest
 
 from fixtures import NO, PATIENCE, TABLE, TASK, YES, Door
@@ -167,7 +169,10 @@ class Proving(Door):
         with open(self.root / "target/door/turn", "wb") as turn:
             fcntl.flock(turn, fcntl.LOCK_EX)
             call = subprocess.Popen([self.root / "quasdrom", "bounds", self.file(TABLE)], env=self.around(), stdout=subprocess.PIPE,
-                                    stderr=subprocess.PIPE)
+                                    stderr=subprocess.PIPE, start_new_session=True)
+            ending = threading.Timer(PATIENCE, os.killpg, (call.pid, signal.SIGKILL))
+            ending.start()
+            self.addCleanup(ending.cancel)
             self.assertEqual(call.stderr.readline(), b"quasdrom: waiting for another ./quasdrom, which is proving\n")
             self.assertEqual((call.poll(), self.proved()), (None, []))
             (self.root / "target/bin").mkdir()
