@@ -14,9 +14,13 @@ WORD = r"[^\s(){}.;,@\"«»\[\]\\`]+"
 DECLARED = re.compile(r"^\s*(?:unfoldable |abbrev )?(?:pub )?(?:data |record )?(" + WORD + r") :(?: +(\S+)|$)")
 # Lemmas that port.py spelled as a definition of ours is spelled now.
 LEMMAS = ("end_step", "laid_out", "one_more")
+# A constructor that would have the name of a definition.
+APART = {"analysed-as": "analysed_case"}
 
 
 def spelled(name):
+    if name in APART:
+        return APART[name]
     if name in LEMMAS:
         return name + "_lem"
     name = name.replace("getD", "get-or")
@@ -50,10 +54,10 @@ def parts(path, text):
     return out
 
 
-def word(turned, m):
-    """The new spelling of a word; a part of a module's path that is spelled as a lemma stays."""
+def word(turned, m, code):
+    """The new spelling of a word; a function, and a part of a module's path, that is spelled as a lemma stays."""
     w, text = m.group(), m.string
-    if w in LEMMAS and (text[m.start() - 1 : m.start()] == "." or text[m.end() : m.end() + 1] == "."):
+    if w in LEMMAS and (code or text[m.start() - 1 : m.start()] == "." or text[m.end() : m.end() + 1] == "."):
         return w
     return turned.get(w, w)
 
@@ -95,7 +99,7 @@ def main():
                 if back[m] in seen and m not in turned:
                     print("beside", p, ":", back[m], "and", m)
                     bad = 1
-        new = "".join(token.sub(lambda m: word(turned, m), piece) if ok else piece for ok, piece in parts(p, t))
+        new = "".join(token.sub(lambda m: word(turned, m, p.endswith(".rt")), piece) if ok else piece for ok, piece in parts(p, t))
         if new != t:
             out[p] = new
     if bad:

@@ -1,4 +1,5 @@
 // The analysis of a table: each task's bound, or none, by rounds until one changes nothing, within an allowance of evaluations.
+#![tactic(auto)]
 ghost use Rattle.std.specs.Prelude.{◌≡◌};
 ghost use Rattle.table.specs.declared.Reading.TheVariants.{Accepted};
 ghost use Rattle.table.specs.WellFormed.{WellFormed};
@@ -12,14 +13,14 @@ mod turns;
 use table::{Reading, Refusal, Shape};
 
 // What the solver answers for a task under a vector: its bound, or none.
-#[derive(Drop)]
+#[derive(Clone, Copy)]
 pub enum Answer {
     Bound(u64),
     Nothing,
 }
 
 // What the analysis answers for a task: its bound; its value on the condition that a task with none is mended; or none.
-#[derive(Drop)]
+#[derive(Clone, Copy)]
 pub enum TaskAnswer {
     Bound(u64),
     Conditional(u64),
@@ -27,14 +28,14 @@ pub enum TaskAnswer {
 }
 
 // The evaluations made so far, and how many are allowed.
-#[derive(Drop)]
+#[derive(Clone, Copy)]
 pub struct Budget {
     pub made: u64,
     pub allowance: u64,
 }
 
 // An answer with the evaluations made so far, or that the next one would pass the allowance.
-#[derive(Drop)]
+#[derive(Clone, Copy)]
 pub struct Reply {
     pub answer: Answer,
     pub evaluations: u64,
@@ -42,7 +43,7 @@ pub struct Reply {
 }
 
 // Where the rounds stand: the table's shape, and the evaluations.
-#[derive(Drop)]
+#[derive(Clone, Copy)]
 pub struct Stand {
     pub shape: Shape,
     pub budget: Budget,
@@ -50,7 +51,7 @@ pub struct Stand {
 
 // What the analysis of a table answers: a refusal, with number 0 where there is none; the tasks; the verdict, whether every task has a bound;
 // the evaluations; and for each task its value in the final vector, and whether it has a bound. The last two are told by `answer` alone.
-#[derive(Drop)]
+#[derive(Clone, Copy)]
 pub struct Analysis {
     pub refusal: Refusal,
     pub tasks: usize,

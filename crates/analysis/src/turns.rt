@@ -13,7 +13,7 @@ use crate::{Answer, Budget, Stand};
 use equations::asked;
 
 // What a round leaves besides the vector: the evaluations so far, whether a value changed, or that the allowance was spent.
-#[derive(Drop)]
+#[derive(Clone, Copy)]
 pub struct Round {
     pub evaluations: u64,
     pub changed: bool,

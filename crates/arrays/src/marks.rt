@@ -127,7 +127,7 @@ pub fn has_number(priority: u8, next: u16, job: Number) -> bool
 }
 
 // One more, where a bound lies above.
-pub fn one_more_lem(x: u8, bound: u8) -> u8
+pub fn one_more(x: u8, bound: u8) -> u8
     requires { x < bound }
     ensures { result ≡ x + 1 }
 {

@@ -3,7 +3,7 @@ ghost use Rattle.std.specs.Prelude.{◌≡◌, ◌+◌, ◌<◌, ◌≤◌, leng
 ghost use Rattle.arrays.specs.View.{count_of, place_of};
 ghost use Rattle.arrays.specs.Stores.{started_at, Cleared, Counted, Removed, Woken};
 
-use crate::marks::{one_more_lem, wide, woken};
+use crate::marks::{one_more, wide, woken};
 
 // The counts of the task at a place begin afresh.
 pub fn clear(counts: &mut [u8; 512], place: usize)
@@ -24,7 +24,7 @@ pub fn count_one_more(counts: &mut [u8; 512], place: usize, resource: u8, bound:
     ensures { Counted counts.old place resource counts.new }
 {
     let k = wide(resource) - 1;
-    counts[place * 16 + k] = one_more_lem(counts[place * 16 + k], bound);
+    counts[place * 16 + k] = one_more(counts[place * 16 + k], bound);
 }
 
 // The job at a place, if any, is started.

@@ -1,4 +1,5 @@
 // The bounds program: a table on standard input, its lines on standard output.
+#![tactic(auto)]
 use libc::{STDIN_FILENO, STDOUT_FILENO};
 
 // The allowance of evaluations.

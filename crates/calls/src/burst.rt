@@ -7,7 +7,7 @@ use scheduler::Scheduler;
 use table::{byte_at, word_at};
 
 // A burst so far: the scheduler, and the checksum of the answers.
-#[derive(Drop)]
+#[derive(Clone, Copy)]
 struct Burst {
     scheduler: Scheduler,
     sum: u64,

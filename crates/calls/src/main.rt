@@ -1,4 +1,5 @@
 // Runs the calls of data/calls on the scheduler and prints a line for each. second/README.md has the formats.
+#![tactic(auto)]
 mod burst;
 mod calling;
 mod made_up;
@@ -9,7 +10,7 @@ use harness::input::filled;
 use scheduler::Scheduler;
 
 // Where a run stands: the scheduler, and whether the cases are over.
-#[derive(Drop)]
+#[derive(Clone, Copy)]
 struct Turn {
     scheduler: Scheduler,
     over: bool,

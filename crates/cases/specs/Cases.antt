@@ -29,14 +29,14 @@ use Rattle.cases.specs.Tables.{A, C, D, E, G, H}
 
 -- A case: a table's answers, verdict and total; a refusal and its place; the values after one round alone; or calls with their answers.
 pub data Case : Type 0 where
-  analysed_as_lem : List ℕ → List TaskAnswer → Bool → ℕ → Case
+  analysed_case : List ℕ → List TaskAnswer → Bool → ℕ → Case
   refused : List ℕ → ℕ → ℕ → Case
   one_round : List ℕ → Shape → List ℕ → Case
   called : List ℕ → List Call → List (ℕ × Running) → Case
 
 -- that it is so
 abbrev pub Holds : Case → Type 0
-Holds (analysed_as_lem s told verdict total) =
+Holds (analysed_case s told verdict total) =
     (every (answer_at (analysed s 100000)) (length told) 0 ≡ told) × ((analysed s 100000).verdict ≡ verdict) × ((analysed s 100000).evaluations ≡ total)
 Holds (refused s number place) = ((analysed s 100000).refusal.number ≡ number) × ((analysed s 100000).refusal.place ≡ place)
 Holds (one_round s h values) = (round (own_system s h) (begin (own_system s h))).vector ≡ values
@@ -49,14 +49,14 @@ Hold (c ∷ cs) = Holds c × Hold cs
 -- A to L, with the one round of H and the 13 beside K
 abbrev pub cases : List Case
 cases =
-    analysed_as_lem (A 0) (Bound 9 ∷ Bound 8 ∷ Bound 11 ∷ []) true 12
-    ∷ analysed_as_lem (A 1) (Bound 7 ∷ Bound 8 ∷ Bound 14 ∷ []) true 12
-    ∷ analysed_as_lem C (Bound 5 ∷ []) true 1
-    ∷ analysed_as_lem D (Nothing ∷ []) false 0
-    ∷ analysed_as_lem (E 8) (Conditional 3 ∷ Nothing ∷ []) false 6
-    ∷ analysed_as_lem (E 9) (Bound 3 ∷ Bound 9 ∷ []) true 8
-    ∷ analysed_as_lem G (Bound 10 ∷ Bound 10 ∷ Bound 12 ∷ []) true 12
-    ∷ analysed_as_lem H (Bound 6 ∷ Bound 5 ∷ []) true 12
+    analysed_case (A 0) (Bound 9 ∷ Bound 8 ∷ Bound 11 ∷ []) true 12
+    ∷ analysed_case (A 1) (Bound 7 ∷ Bound 8 ∷ Bound 14 ∷ []) true 12
+    ∷ analysed_case C (Bound 5 ∷ []) true 1
+    ∷ analysed_case D (Nothing ∷ []) false 0
+    ∷ analysed_case (E 8) (Conditional 3 ∷ Nothing ∷ []) false 6
+    ∷ analysed_case (E 9) (Bound 3 ∷ Bound 9 ∷ []) true 8
+    ∷ analysed_case G (Bound 10 ∷ Bound 10 ∷ Bound 12 ∷ []) true 12
+    ∷ analysed_case H (Bound 6 ∷ Bound 5 ∷ []) true 12
     ∷ one_round H (record { tasks = 2; uses_at = 40; uses = 2 }) (9 ∷ 5 ∷ [])
     ∷ refused [] 1 0
     ∷ refused (3 ∷ []) 3 0

@@ -1,4 +1,5 @@
 // The right side of a task's equation, read off a table's bytes: no copy of the table, and none of the section bag.
+#![tactic(auto)]
 ghost use Rattle.std.specs.Prelude.{◌≡◌, ◌≤◌};
 ghost use Rattle.equations.specs.View.{view_of};
 ghost use Rattle.equations.specs.Equations.{right_side};
@@ -14,7 +15,7 @@ pub use scans::{asked, ceilings};
 use table::Shape;
 
 // A task, by its place, and a length t.
-#[derive(Drop)]
+#[derive(Clone, Copy)]
 pub struct At {
     pub task: usize,
     pub length: u64,
@@ -22,7 +23,7 @@ pub struct At {
 
 // What is worked out of a task once, for all its right sides: its table's shape, its place and most sleeps; how many of the uses that can block
 // it are kept; and B0.
-#[derive(Drop)]
+#[derive(Clone, Copy)]
 pub struct Query {
     pub shape: Shape,
     pub task: usize,

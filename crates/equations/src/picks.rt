@@ -6,14 +6,14 @@ use crate::Query;
 use crate::numbers::{ceil_div, field, smaller, wide};
 
 // The sections of one use in a bag: their length, and how many there are.
-#[derive(Drop)]
+#[derive(Clone, Copy)]
 pub struct Pick {
     pub length: u64,
     pub times: u64,
 }
 
 // What is taken of a bag so far: how many sections, none shorter than any that is left, and how far they go into Σ(X) and Σ(X + 1).
-#[derive(Drop)]
+#[derive(Clone, Copy)]
 pub struct Tally {
     pub taken: u64,
     pub less: u64,
@@ -21,7 +21,7 @@ pub struct Tally {
 }
 
 // Σ(X) and Σ(X + 1).
-#[derive(Drop)]
+#[derive(Clone, Copy)]
 pub struct Sums {
     pub less: u64,
     pub more: u64,

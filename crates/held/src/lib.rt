@@ -1,4 +1,5 @@
 // A task table held by value: loaded from bytes that the reader accepts, and written as bytes that it would accept.
+#![tactic(auto)]
 ghost use Rattle.std.specs.Prelude.{◌≡◌, length};
 ghost use Rattle.held.specs.Loading.{load_table};
 ghost use Rattle.held.specs.Replies.{number_of, place_of, count_of};
@@ -11,7 +12,7 @@ pub use encoder::put_word;
 use table::{Reading, Refusal, Task, Use};
 
 // A table of at most 32 tasks and 512 uses. Entries past the counts don't count.
-#[derive(Drop)]
+#[derive(Clone, Copy)]
 pub struct Table {
     pub tasks: [Task; 32],
     pub task_count: usize,
@@ -20,14 +21,14 @@ pub struct Table {
 }
 
 // What bytes are read as, and the table that they hold: all zeros where they are refused.
-#[derive(Drop)]
+#[derive(Clone, Copy)]
 pub struct Loaded {
     pub reading: Reading,
     pub table: Table,
 }
 
 // How many bytes were written, or why none were.
-#[derive(Drop)]
+#[derive(Clone, Copy)]
 pub enum Writing {
     Written(usize),
     Refused(Refusal),

@@ -7,7 +7,7 @@ use scheduler::{Number, Reply, Scheduler};
 use table::byte_at;
 
 // What going through a list leaves: the scheduler, and the checksum.
-#[derive(Drop)]
+#[derive(Clone, Copy)]
 pub struct Passed {
     pub scheduler: Scheduler,
     pub sum: u64,

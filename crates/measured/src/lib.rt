@@ -1,4 +1,5 @@
 // What a C program links to count instructions: many analyses of a table, or a list of calls gone through many times, in one call.
+#![tactic(auto)]
 mod calling;
 mod sums;
 

@@ -1,4 +1,5 @@
 // The text form of a table: the text of a table's bytes, and the bytes of a text.
+#![tactic(auto)]
 ghost use Rattle.std.specs.Prelude.{◌≡◌, ◌++◌, length, drop};
 ghost use Rattle.io.specs.Counts.{IsPrefixLen};
 ghost use Rattle.words.specs.Text.{fitted};
@@ -18,7 +19,7 @@ use table::Reading;
 use words::put_refusal;
 
 // A fault of a text: its line, its cause by its number in docs/NOTATION.md, and what that speaks of: a column, the place of a word, two values.
-#[derive(Drop)]
+#[derive(Clone, Copy)]
 pub struct Fault {
     pub line: usize,
     pub cause: u8,
@@ -29,7 +30,7 @@ pub struct Fault {
 }
 
 // How many bytes the table of a text has, or the first fault.
-#[derive(Drop)]
+#[derive(Clone, Copy)]
 pub enum Packing {
     Packed(usize),
     Faulty(Fault),

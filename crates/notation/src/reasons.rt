@@ -5,7 +5,7 @@ ghost use Rattle.notation.specs.Reasons.{reason, range_reason, task_reason, use_
 use table::{Task, byte_at};
 
 // The cause, and the two values that show it.
-#[derive(Drop)]
+#[derive(Clone, Copy)]
 pub struct Reason {
     pub cause: u8,
     pub value: u32,

@@ -10,7 +10,7 @@ use crate::columns::{is_name, is_wide, least, most};
 use words::run_end;
 
 // A column's value and where it ends, or the cause of a fault and the word at fault.
-#[derive(Drop)]
+#[derive(Clone, Copy)]
 pub struct Cell {
     pub cause: u8,
     pub at: usize,
@@ -19,7 +19,7 @@ pub struct Cell {
 }
 
 // What was taken of a line: 0 or the cause of its fault, with the column and the word at fault; and where the bytes of its record end.
-#[derive(Drop)]
+#[derive(Clone, Copy)]
 pub struct Taken {
     pub cause: u8,
     pub column: u8,

@@ -10,7 +10,7 @@ use table::Reading;
 use words::run_end;
 
 // Where packing stands: the next line's place and number, the bytes of the records so far, and the tasks among them.
-#[derive(Drop)]
+#[derive(Clone, Copy)]
 pub struct Position {
     pub at: usize,
     pub line: usize,
@@ -19,7 +19,7 @@ pub struct Position {
 }
 
 // One line further, or the end.
-#[derive(Drop)]
+#[derive(Clone, Copy)]
 pub enum Turn {
     Next(Position),
     Last(Packing),
@@ -102,7 +102,7 @@ fn line_step(text: &[u8], records: &mut [u8], position: Position) -> Turn
 }
 
 // The end of the text: the records so far with an end, where the reader accepts them.
-fn end_step_lem(records: &mut [u8], position: Position) -> Packing
+fn end_step(records: &mut [u8], position: Position) -> Packing
     requires { (4800 ≤ length records.old) × (position.count ≤ 4736) }
     ensures { PackedTo (end_of position (front_of position records.old)) records.new result }
 {
@@ -130,7 +130,7 @@ pub fn pack_text(text: &[u8], records: &mut [u8]) -> Packing
     };
     loop {
         if text.len() <= position.at {
-            return end_step_lem(records, position);
+            return end_step(records, position);
         }
         match line_step(text, records, position) {
             Turn::Next(next) => {

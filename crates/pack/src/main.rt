@@ -1,4 +1,5 @@
 // The pack program: a table's text on standard input, its bytes or the line of its first fault on standard output.
+#![tactic(auto)]
 use libc::{STDIN_FILENO, STDOUT_FILENO};
 
 // Reads at most 262,145 bytes, which decide any text, and prints the table's bytes, or the first line at fault.

@@ -1,1 +1,2 @@
 // What the lock scheduler is, and why waits are short: specs/ says it, proofs/ shows it, for other crates to cite.
+#![tactic(auto)]

@@ -12,7 +12,7 @@ use analysis::{Analysis, TaskAnswer};
 use table::{Reading, Refusal, Shape};
 
 // What a report answers, and the rows of the tasks that it tells of: as many as it says, none of a refusal.
-#[derive(Drop)]
+#[derive(Clone, Copy)]
 pub struct Found {
     pub reported: Reported,
     pub rows: [Row; 32],

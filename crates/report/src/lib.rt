@@ -1,4 +1,5 @@
 // The report on a table: its analysis, with a row for each task in a list that the host lends.
+#![tactic(auto)]
 ghost use Rattle.std.specs.Prelude.{◌≡◌, ◌++◌, ◌≤◌, length, take, drop};
 ghost use Rattle.report.specs.Reporting.{reported, rows_after};
 
@@ -8,7 +9,7 @@ use table::Refusal;
 
 // The row of a task: its priority; the number of its answer, 0 for none, 1 for a bound, 2 for a conditional value; the value, or 0; its deadline.
 #[repr(C)]
-#[derive(Drop)]
+#[derive(Clone, Copy)]
 pub struct Row {
     pub priority: u8,
     pub answer: u8,
@@ -17,7 +18,7 @@ pub struct Row {
 }
 
 // What a report answers: a refusal, with number 0 where there is none; the tasks, each of which has its row; the verdict; the evaluations.
-#[derive(Drop)]
+#[derive(Clone, Copy)]
 pub struct Reported {
     pub refusal: Refusal,
     pub tasks: usize,

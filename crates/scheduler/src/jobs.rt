@@ -5,7 +5,7 @@ ghost use Rattle.scheduler.specs.Replies.{replied};
 
 use crate::{Number, Reply, Scheduler};
 use arrays::{
-    admitted, caller, ceiling, clear, complete_rule, is_fit, last_open, next_serial, one_more_lem,
+    admitted, caller, ceiling, clear, complete_rule, is_fit, last_open, next_serial, one_more,
     place_of_priority, release_rule, sleeper, suspend_rule,
 };
 
@@ -104,7 +104,7 @@ impl Scheduler {
             return self.refused(refusal);
         }
         self.states[at] = 3;
-        self.sleeps[at] = one_more_lem(self.sleeps[at], self.most[at]);
+        self.sleeps[at] = one_more(self.sleeps[at], self.most[at]);
         self.settled()
     }
 

@@ -1,4 +1,5 @@
 // The lock scheduler: its state is carried by value, one array to a field, and each call answers the next state.
+#![tactic(auto)]
 ghost use Rattle.std.specs.Prelude.{◌≡◌, [], ◌≤◌};
 ghost use Rattle.protocol.specs.Step.{number_at};
 ghost use Rattle.arrays.specs.View.{ranked, entries_by, place_of};
@@ -15,7 +16,7 @@ pub use setup::{SetUp, set_up};
 // The tasks by place: priority, system setting, most sleeps X, and N for each of sixteen resources. Their entries: the job's state (0 none, 1 ready,
 // 2 waiting, 3 asleep), whether it is started, its sleeps, the sections opened of each resource, the resource held, and the serial that the next
 // release takes. The open sections, in order of opening, by place and resource.
-#[derive(Drop)]
+#[derive(Clone, Copy)]
 pub struct Scheduler {
     pub tasks: usize,
     pub sections: usize,
@@ -34,14 +35,14 @@ pub struct Scheduler {
 }
 
 // The running job's number, or idle.
-#[derive(Drop)]
+#[derive(Clone, Copy)]
 pub enum Running {
     Idle,
     Runs(Number),
 }
 
 // What a call answers: 0 or a refusal, the running job, and the next state.
-#[derive(Drop)]
+#[derive(Clone, Copy)]
 pub struct Reply {
     pub refusal: u8,
     pub running: Running,

@@ -8,7 +8,7 @@ use arrays::wide;
 use table::{Reading, Refusal, Shape};
 
 // What setting up answers: number 0 and place 0 where the table is accepted, else its refusal and a scheduler with no tasks.
-#[derive(Drop)]
+#[derive(Clone, Copy)]
 pub struct SetUp {
     pub refusal: Refusal,
     pub scheduler: Scheduler,

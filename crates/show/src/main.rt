@@ -1,4 +1,5 @@
 // The show program: a table on standard input, its text on standard output.
+#![tactic(auto)]
 use libc::{STDIN_FILENO, STDOUT_FILENO};
 
 // Reads at most 8,192 bytes, which decide any input, and prints the table as text, or its refusal.

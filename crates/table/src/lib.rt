@@ -1,4 +1,5 @@
 // Task tables as bytes: reading one whole, the fields of its records, and a task's record as the caller's own bytes.
+#![tactic(auto)]
 ghost use Rattle.std.specs.Prelude.{◌≡◌};
 ghost use Rattle.table.specs.Reading.{read_table};
 ghost use Rattle.table.specs.Replies.{number_of, place_of};
@@ -12,7 +13,7 @@ pub use fields::{byte_at, no_task, no_use, task_at, use_at, whole_word, word_at}
 pub use rules::place_of;
 
 // A task: its priority, system setting, most sleeps X, run time C, sleep S, deadline D and period T.
-#[derive(Drop)]
+#[derive(Clone, Copy)]
 pub struct Task {
     pub priority: u8,
     pub setting: u8,
@@ -24,7 +25,7 @@ pub struct Task {
 }
 
 // A use of a resource: the task's priority, the resource, how often N at most and how long L each.
-#[derive(Drop)]
+#[derive(Clone, Copy)]
 pub struct Use {
     pub priority: u8,
     pub resource: u8,
@@ -33,7 +34,7 @@ pub struct Use {
 }
 
 // What an accepted table has: its tasks, the place where its uses start, and its uses.
-#[derive(Drop)]
+#[derive(Clone, Copy)]
 pub struct Shape {
     pub tasks: usize,
     pub uses_at: usize,
@@ -41,14 +42,14 @@ pub struct Shape {
 }
 
 // A refusal: its number and its place.
-#[derive(Drop)]
+#[derive(Clone, Copy)]
 pub struct Refusal {
     pub number: u8,
     pub place: usize,
 }
 
 // What a table's bytes are read as.
-#[derive(Drop)]
+#[derive(Clone, Copy)]
 pub enum Reading {
     Accepted(Shape),
     Refused(Refusal),

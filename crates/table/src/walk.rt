@@ -10,7 +10,7 @@ use crate::{Reading, Refusal, Shape, Task, Use};
 
 // Where the walk stands: the next record's place; the tasks so far and the last one's priority, 256 before the first; the uses so far,
 // the place of the last one's task, the least resource that its next use may name, and what its sections add up to.
-#[derive(Drop)]
+#[derive(Clone, Copy)]
 pub struct Walk {
     pub at: usize,
     pub tasks: usize,
@@ -22,7 +22,7 @@ pub struct Walk {
 }
 
 // One record further, or the end.
-#[derive(Drop)]
+#[derive(Clone, Copy)]
 pub enum Turn {
     Next(Walk),
     Last(Reading),
@@ -124,7 +124,7 @@ fn use_step(bytes: &[u8], walk: Walk) -> Turn
 }
 
 // The end record, which has no body and nothing after it.
-fn end_step_lem(bytes: &[u8], walk: Walk) -> Turn
+fn end_step(bytes: &[u8], walk: Walk) -> Turn
     requires { Sound bytes.now walk }
     ensures { Stepped bytes.now walk (end_step bytes.now walk) result }
 {
@@ -156,7 +156,7 @@ pub fn step(bytes: &[u8], walk: Walk) -> Turn
     match kind {
         1 => task_step(bytes, walk),
         2 => use_step(bytes, walk),
-        3 => end_step_lem(bytes, walk),
+        3 => end_step(bytes, walk),
         0 | 4..=255 => refused(2, at),
     }
 }

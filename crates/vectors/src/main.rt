@@ -1,4 +1,5 @@
 // Runs the cases of data/tables through the proved crates and prints the lines of each. second/README.md has the formats.
+#![tactic(auto)]
 mod analysing;
 mod reading;
 mod sums;
