@@ -1,5 +1,6 @@
 // Words and numbers: put into a lent buffer, and found in a text.
 #![tactic(auto)]
+
 ghost use Rattle.std.specs.Prelude.{◌≤◌, length};
 ghost use Rattle.words.specs.Refusing.{refusal_line};
 ghost use Rattle.words.specs.Writing.{Put};
