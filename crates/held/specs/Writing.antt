@@ -1,5 +1,5 @@
 -- The bytes of a held table, and what the writer answers: it checks the table as if it read the written bytes.
-use Rattle.std.specs.Prelude.{ℕ, ◌+◌, ◌/◌, ◌%◌, min, List, [], ◌∷◌, ◌++◌, cond, ltb, length, get_or, take, drop}
+use Rattle.std.specs.Prelude.{ℕ, ◌/◌, ◌%◌, min, List, [], ◌∷◌, ◌++◌, cond, ltb, length, get_or, take, drop}
 use Rattle.searches.specs.Indexed.{every}
 use Rattle.table.specs.declared.Task.{Task}
 use Rattle.table.specs.declared.Use.{Use}

@@ -1,5 +1,6 @@
 // A task table held by value: loaded from bytes that the reader accepts, and written as bytes that it would accept.
 #![tactic(auto)]
+
 ghost use Rattle.std.specs.Prelude.{◌≡◌, length};
 ghost use Rattle.held.specs.Loading.{load_table};
 ghost use Rattle.held.specs.Replies.{number_of, place_of, count_of};
@@ -108,6 +109,6 @@ pub fn write(table: Table, out: &mut [u8]) -> Writing
     let length = encoder::encode(table, &mut bytes);
     let writing = decide(table::read(&bytes[..length]), length, out.len());
     let n = count(writing);
-    bytes::copy(&bytes[..n], out);
+    out[..n].copy_from_slice(&bytes[..n]);
     writing
 }
