@@ -1,6 +1,6 @@
 -- The open sections by their arrays: how many, whether each is named, and the ceiling of the last.
 use Rattle.std.proofs.Common.{◌≡◌, ℕ, zero, suc, Bool, true, false, ◌&&◌, ltb, leb, List, [], ◌∷◌, ◌++◌, length, get_or, sym, refl, ap, ◌∙◌, arith, length-append}
-use mathlib.Core.Bool.{and_true, and_assoc}
+use mathlib.Core.Bool.{and-true, and_assoc}
 use Rattle.protocol.specs.Tasks.{Table}
 use Rattle.searches.specs.Searches.{all, largest}
 use Rattle.protocol.specs.State.{Entry, Section}
@@ -21,7 +21,7 @@ sections_length places resources (suc n) = simp length-append (omega (arith, sec
 -- a list with one section more
 named_snoc : (T : Table) (l : List Section) (s : Section) → named T (l ++ (s ∷ [])) ≡ named T l && (ltb s.place T.size && used T s.resource)
 unfolding named
-named_snoc T [] s = and_true (ltb s.place T.size && used T s.resource)
+named_snoc T [] s = and-true (ltb s.place T.size && used T s.resource)
 named_snoc T (t ∷ l) s =
     rw (named_snoc T l s)
     (sym (and_assoc (ltb t.place T.size && used T t.resource) (named T l) (ltb s.place T.size && used T s.resource)))

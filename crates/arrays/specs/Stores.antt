@@ -1,5 +1,5 @@
 -- What the stores leave in an array.
-use Rattle.std.specs.Prelude.{◌≡◌, ℕ, suc, ◌<◌, ◌≤◌, Bool, true, cond, ◌&&◌, List, length, set, ◌==◌, ◌≢◌, nat_lt, slice_index, slice_set}
+use Rattle.std.specs.Prelude.{◌≡◌, ℕ, suc, ◌<◌, ◌≤◌, Bool, true, cond, ◌&&◌, List, length, ◌==◌, ◌≢◌, nat_lt, slice_index, slice_set}
 use Rattle.searches.specs.Searches.{Place, nowhere, at}
 use Rattle.protocol.specs.Acting.{one_more}
 use Rattle.arrays.specs.View.{count_of}

@@ -1,5 +1,6 @@
 // The scans and stores of the lock scheduler, over lent arrays: each is the machine's own search or change, seen on those arrays.
 #![tactic(auto)]
+
 mod marks;
 mod rules;
 mod scans;
