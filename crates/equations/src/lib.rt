@@ -1,5 +1,6 @@
 // The right side of a task's equation, read off a table's bytes: no copy of the table, and none of the section bag.
 #![tactic(auto)]
+
 ghost use Rattle.std.specs.Prelude.{◌≡◌, ◌≤◌};
 ghost use Rattle.equations.specs.View.{view_of};
 ghost use Rattle.equations.specs.Equations.{right_side};

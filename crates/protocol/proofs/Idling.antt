@@ -1,6 +1,6 @@
 -- Under the rule in force nothing runs only where no section is open and each unfinished job sleeps or is held back by one that does.
 use mathlib.Core.Path.{◌≡◌, refl, subst}
-use mathlib.Core.Logic.{◌⊎◌, inl, inr, ⊎_elim}
+use mathlib.Core.Logic.{inl, inr, ⊎_elim}
 use mathlib.Core.List.{List, [], ◌∷◌}
 use mathlib.Core.Bool.{true, or-true}
 use Prim.Native.Nat.{ℕ, ◌≤◌, ◌<◌}

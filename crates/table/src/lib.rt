@@ -1,5 +1,6 @@
 // Task tables as bytes: reading one whole, the fields of its records, and a task's record as the caller's own bytes.
 #![tactic(auto)]
+
 ghost use Rattle.std.specs.Prelude.{◌≡◌};
 ghost use Rattle.table.specs.Reading.{read_table};
 ghost use Rattle.table.specs.Replies.{number_of, place_of};

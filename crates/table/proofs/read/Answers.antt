@@ -1,10 +1,6 @@
 -- What is left of `table::read`.
-use Prim.Native.Nat.{◌-◌}
-use borrow.Author.Rules.{rules}
-use lib.ListN.{length}
 use mathlib.Core.Path.{subst, sym}
-use native.Mathlib.Omega.{arith}
-use Rattle.table.proofs.Laws.{Going, go_start, further, go_on, go_last}
+use Rattle.table.proofs.Laws.{Going, go_start, go_on, go_last}
 use Rattle.table.proofs.read.Goals as goal
 
 pub loop-next-init : goal.loop-next-init

@@ -1,5 +1,4 @@
 -- What is left of `table::record_of`.
-use borrow.Author.Rules.{rules}
 use mathlib.Core.Path.{sym, ◌∙◌}
 use native.Mathlib.Omega.{arith}
 use Rattle.table.proofs.Parts.{tasks_within, record_refused, record_found, record_absent}

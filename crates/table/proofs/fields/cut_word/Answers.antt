@@ -1,5 +1,4 @@
 -- What is left of `table::fields::cut_word`.
-use borrow.Author.Rules.{rules}
 use mathlib.Core.Path.{sym}
 use Rattle.table.proofs.Laws.{word_past}
 use Rattle.table.specs.Fields.{word_at}

@@ -1,5 +1,4 @@
 -- What is left of `table::fields::task_at`.
-use borrow.Author.Rules.{rules}
 use mathlib.Core.Path.{◌∙◌}
 use Rattle.table.proofs.Laws.{task_past}
 use Rattle.table.proofs.fields.task_at.Goals as goal

@@ -1,5 +1,4 @@
 -- What is left of `table::fields::use_at`.
-use borrow.Author.Rules.{rules}
 use mathlib.Core.Path.{◌∙◌}
 use Rattle.table.proofs.Laws.{use_past}
 use Rattle.table.proofs.fields.use_at.Goals as goal

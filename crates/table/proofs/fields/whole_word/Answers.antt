@@ -1,5 +1,4 @@
 -- What is left of `table::fields::whole_word`.
-use borrow.Author.Rules.{rules}
 use Rattle.table.specs.Fields.{word_at}
 use Rattle.table.proofs.fields.whole_word.Goals as goal
 

@@ -1,9 +1,6 @@
 -- What is left of `table::rules::place_of`.
-use Prim.Native.Nat.{◌≤◌, ◌-◌}
-use borrow.Author.Rules.{rules}
-use mathlib.Core.Path.{◌≡◌, refl, sym, ◌∙◌}
+use mathlib.Core.Path.{sym, ◌∙◌}
 use native.Mathlib.Omega.{arith}
-use Rattle.table.specs.Rules.{place_from}
 use Rattle.table.proofs.Laws.{place_here, place_next, place_end}
 use Rattle.table.proofs.rules.place_of.Goals as goal
 

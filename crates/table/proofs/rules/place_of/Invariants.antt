@@ -1,10 +1,7 @@
 -- The loops of `table::rules::place_of`.
 use Prim.Native.Nat.{◌≤◌, ◌-◌}
-use borrow.Author.Rules.{rules}
-use mathlib.Core.Path.{◌≡◌, refl, sym, ◌∙◌}
-use native.Mathlib.Omega.{arith}
+use mathlib.Core.Path.{◌≡◌}
 use Rattle.table.specs.Rules.{place_from}
-use Rattle.table.proofs.Laws.{place_here, place_next, place_end}
 use Rattle.table.proofs.rules.place_of.Given as goal
 
 abbrev pub invariant-loop-i : goal.invariant-loop-i

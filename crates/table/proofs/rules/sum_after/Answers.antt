@@ -1,9 +1,6 @@
 -- What is left of `table::rules::sum_after`.
-use borrow.Author.Rules.{rules}
 use borrow.Author.Tests.{eq-eqb, ne_eqb}
-use native.Mathlib.Omega.{arith}
 use Rattle.table.specs.Rules.{sum_after}
-use Rattle.table.proofs.Laws.{byte_times_word}
 use Rattle.table.proofs.rules.sum_after.Goals as goal
 
 pub returns-then-user-walk : goal.returns-then-user-walk

@@ -1,5 +1,4 @@
 -- What is left of `table::rules::task_rule`.
-use borrow.Author.Rules.{rules}
 use borrow.Author.Tests.{le-leb, lt-leb}
 use Rattle.table.specs.Rules.{task_rule}
 use Rattle.table.proofs.rules.task_rule.Goals as goal

@@ -1,5 +1,4 @@
 -- What is left of `table::rules::use_rule`.
-use borrow.Author.Rules.{rules}
 use borrow.Author.Tests.{lt-ltb, le-ltb}
 use Rattle.table.specs.Rules.{use_rule}
 use Rattle.table.proofs.rules.use_rule.Goals as goal

@@ -1,5 +1,4 @@
 -- What is left of `table::walk::end_step`.
-use borrow.Author.Rules.{rules}
 use borrow.Author.Tests.{lt-ltb, le-ltb, eq-eqb, ne_eqb}
 use mathlib.Core.Path.{refl}
 use Rattle.table.specs.Reading.{end_step}

@@ -1,7 +1,5 @@
 -- What is left of `table::walk::step`.
-use borrow.Author.Rules.{rules}
 use borrow.Author.Tests.{le-leb, lt-leb, ne_eqb}
-use mathlib.Core.Logic.{⊎_elim}
 use Rattle.table.specs.Reading.{step_at}
 use Rattle.table.proofs.Laws.{last_step}
 use Rattle.table.proofs.walk.step.Goals as goal
@@ -26,6 +24,6 @@ returns-in-3 c = simp (lt-leb _ _ c.if-bytes-at.false, c.in-3.is) c.end_step.ens
 pub returns-in-0 : goal.returns-in-0
 unfolding step_at
 returns-in-0 c = last_step _ _ _ _ _ c.refused-in-0.ensures (elim c.in-0-1.branch [
-  in-0-1 w ↦ simp (lt-leb _ _ c.if-bytes-at.false, w.in-0-1.keys4) |
-  in_default-1 w ↦ (let r = w.in_default-1.rest in simp (lt-leb _ _ c.if-bytes-at.false, ne_eqb _ _ r.0.0.0.1, ne_eqb _ _ r.0.0.1, ne_eqb _ _ r.0.1))
+  | in-0-1 w ↦ simp (lt-leb _ _ c.if-bytes-at.false, w.in-0-1.keys4)
+  | in_default-1 w ↦ (let r = w.in_default-1.rest in simp (lt-leb _ _ c.if-bytes-at.false, ne_eqb _ _ r.0.0.0.1, ne_eqb _ _ r.0.0.1, ne_eqb _ _ r.0.1))
 ])

@@ -1,5 +1,4 @@
 -- What is left of `table::walk::task_step`.
-use borrow.Author.Rules.{rules}
 use borrow.Author.Tests.{lt-ltb, le-ltb}
 use native.Mathlib.Omega.{arith}
 use Rattle.table.specs.Reading.{task_step}
