@@ -1,5 +1,6 @@
 // The analysis of a table: each task's bound, or none, by rounds until one changes nothing, within an allowance of evaluations.
 #![tactic(auto)]
+
 ghost use Rattle.std.specs.Prelude.{◌≡◌};
 ghost use Rattle.table.specs.declared.Reading.TheVariants.{Accepted};
 ghost use Rattle.table.specs.WellFormed.{WellFormed};

@@ -1,0 +1,14 @@
+-- The loops of `analysis::starts::own_settings`.
+use Prim.Native.Nat.{◌≤◌, ◌-◌}
+use lib.ListN.{replicate}
+use mathlib.Core.List.{◌++◌}
+use mathlib.Core.Path.{◌≡◌}
+use Rattle.searches.specs.Indexed.{every}
+use Rattle.analysis.proofs.Starting.{setting_of}
+use Rattle.analysis.proofs.starts.own_settings.Given as goal
+
+abbrev pub invariant-loop-i : goal.invariant-loop-i
+invariant-loop-i l = (l.i ≤ l.tasks) × (l.settings ≡ every (setting_of l.bytes) l.i 0 ++ replicate (32 - l.i) 0)
+
+abbrev pub decreases-loop-i : goal.decreases-loop-i
+decreases-loop-i l = l.tasks - l.i
