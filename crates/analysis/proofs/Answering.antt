@@ -14,7 +14,7 @@ use Rattle.table.specs.declared.Shape.{Shape}
 use Rattle.table.specs.declared.Reading.TheVariants.{Accepted}
 use Rattle.table.specs.WellFormed.{WellFormed}
 use Rattle.rounds.specs.Rounds.{Progress, analysis, answer, begin}
-use Rattle.rounds.specs.AllowanceLaws.{within_allowed, beyond_refused}
+use Rattle.rounds.proofs.AllowanceLaws.{within_allowed, beyond_refused}
 use Rattle.equations.specs.View.{own_settings}
 use Rattle.analysis.specs.declared.Analysis.{Analysis}
 use Rattle.analysis.specs.declared.turns.Round.{Round}

@@ -24,7 +24,7 @@ use Rattle.rounds.specs.Answer.{Solution, Right, value}
 use Rattle.rounds.specs.System.{deadline}
 use Rattle.rounds.specs.Vector.{at}
 use Rattle.rounds.specs.Rounds.{analysis, answer}
-use Rattle.rounds.specs.AllowanceLaws.{within_allowed, beyond_refused}
+use Rattle.rounds.proofs.AllowanceLaws.{within_allowed, beyond_refused}
 use Rattle.equations.specs.View.{own_settings}
 use Rattle.analysis.specs.declared.Analysis.{Analysis}
 use Rattle.analysis.specs.declared.TaskAnswer.TheVariants.{Bound, Conditional, Nothing}

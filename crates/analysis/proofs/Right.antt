@@ -8,10 +8,10 @@ use Rattle.table.specs.Reading.{read_table}
 use Rattle.table.proofs.Accepted.{well_formed}
 use Rattle.rounds.specs.Answer.{Right, value}
 use Rattle.rounds.specs.System.{size, deadline, Final}
-use Rattle.rounds.specs.SystemLaws.{agrees_within}
+use Rattle.rounds.proofs.SystemLaws.{agrees_within}
 use Rattle.rounds.specs.Vector.{at, ◌⊑◌}
 use Rattle.rounds.specs.Rounds.{analysis, answer}
-use Rattle.rounds.specs.Theorems.{analysis_final, answer_right, answer_value_lem}
+use Rattle.rounds.proofs.Theorems.{analysis_final, answer_right, answer_value_lem}
 use Rattle.equations.specs.View.{own_settings}
 use Rattle.analysis.specs.Analysing.{own_system}
 use Rattle.equations.proofs.Accepted.{accepted_lawful}

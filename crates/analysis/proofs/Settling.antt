@@ -8,7 +8,8 @@ use Rattle.searches.proofs.Testing.{impossible}
 use Rattle.rounds.specs.System.{System, Lawful}
 use Rattle.rounds.specs.Vector.{sum}
 use Rattle.rounds.specs.Rounds.{Progress, round, begin}
-use Rattle.rounds.specs.RoundsLoop.{Going, going_start, going_over, going_next, going_less, going_end, going_answers}
+use Rattle.rounds.specs.RoundsLoop.{Going}
+use Rattle.rounds.proofs.RoundsLoop.{going_start, going_over, going_next, going_less, going_end, going_answers}
 use Rattle.analysis.specs.declared.turns.Round.{Round}
 use Rattle.analysis.specs.Rounding.{progress, bounded, Rounded, Settled}
 

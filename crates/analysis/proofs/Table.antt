@@ -10,7 +10,7 @@ use Rattle.table.specs.declared.Shape.{Shape}
 use Rattle.table.specs.Fields.{word_at}
 use Rattle.table.specs.WellFormed.{task_of, WellFormed}
 use Rattle.rounds.specs.System.{System, size, deadline}
-use Rattle.rounds.specs.VectorLaws.{⊑_refl}
+use Rattle.rounds.proofs.VectorLaws.{⊑_refl}
 use Rattle.equations.specs.declared.Query.{Query}
 use Rattle.equations.specs.View.{view_of}
 use Rattle.equations.specs.Equations.{system_of}
@@ -18,8 +18,9 @@ use Rattle.equations.specs.Ready.{Asking}
 use Rattle.equations.proofs.Accepted.{table_lawful}
 use Rattle.rounds.specs.Answer.{none}
 use Rattle.rounds.specs.Solver.{Reply}
-use Rattle.rounds.specs.SolverSteps.{solve_over}
-use Rattle.rounds.specs.SolverLoop.{Climbing, climbing_start}
+use Rattle.rounds.proofs.SolverSteps.{solve_over}
+use Rattle.rounds.specs.SolverLoop.{Climbing}
+use Rattle.rounds.proofs.SolverLoop.{climbing_start}
 use Rattle.rounds.specs.Rounds.{reply}
 use Rattle.analysis.specs.declared.Answer as code
 use Rattle.analysis.specs.Solving.{answer_of, Solvable, Solved}

@@ -12,7 +12,8 @@ use Rattle.searches.proofs.Testing.{impossible}
 use Rattle.table.specs.declared.Shape.{Shape}
 use Rattle.table.specs.WellFormed.{task_of, WellFormed}
 use Rattle.rounds.specs.System.{System, size}
-use Rattle.rounds.specs.OnWay.{OnWay, on_way_floor}
+use Rattle.rounds.specs.OnWay.{OnWay}
+use Rattle.rounds.proofs.OnWay.{on_way_floor}
 use Rattle.equations.specs.declared.Query.{Query}
 use Rattle.equations.specs.Ready.{QueryIs}
 use Rattle.analysis.specs.declared.Answer.{Answer}
@@ -20,7 +21,8 @@ use Rattle.analysis.specs.declared.Answer.TheVariants.{Bound, Nothing}
 use Rattle.analysis.specs.Solving.{answer_of, is_bound, Solvable}
 use Rattle.analysis.specs.Rounding.{bounded, Lowers, Listed}
 use Rattle.rounds.specs.Rounds.{Progress, reply, lowers, changed, answer_in}
-use Rattle.rounds.specs.RoundLoop.{Turned, turned_over, turned_next, turned_answer, turned_end}
+use Rattle.rounds.specs.RoundLoop.{Turned}
+use Rattle.rounds.proofs.RoundLoop.{turned_over, turned_next, turned_answer, turned_end}
 use Rattle.analysis.specs.declared.Reply.{Reply}
 use Rattle.analysis.specs.declared.turns.Round.{Round}
 use Rattle.analysis.specs.Rounding.{progress, Marks, Rounded}

@@ -19,7 +19,7 @@ use Rattle.table.specs.Reading.{read_table}
 use Rattle.table.specs.WellFormed.{task_of}
 use Rattle.rounds.specs.Rounds.{answer}
 use Rattle.rounds.specs.Allowance.{Allowed, within, beyond, allowed}
-use Rattle.rounds.specs.AllowanceLaws.{within_allowed, beyond_refused}
+use Rattle.rounds.proofs.AllowanceLaws.{within_allowed, beyond_refused}
 use Rattle.analysis.specs.declared.Analysis.{Analysis}
 use Rattle.analysis.specs.Analysing.{own_system, verdict_of, allowed_as, analysed_as, analysed}
 use Rattle.analysis.specs.Answering.{told_of}

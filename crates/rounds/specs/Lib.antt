@@ -5,24 +5,15 @@ pub mod Solver
 pub mod System
 pub mod Rounds
 pub mod Allowance
--- What holds of them: `Theorems` and `AllowanceLaws` have the chief statements, and the others lead there.
-pub mod Theorems
-pub mod AllowanceLaws
-pub mod VectorLaws
-pub mod AnswerLaws
-pub mod SystemLaws
+-- What the laws in proofs/ speak of besides.
 pub mod SolverSteps
-pub mod SolverRight
 pub mod Worth
 pub mod OnWay
 pub mod Sweep
-pub mod LoweredLaws
-pub mod RoundLaws
-pub mod RoundSweep
 pub mod LastRound
 -- The loops of solver, round and rounds, for the proofs of code.
 pub mod SolverLoop
 pub mod RoundLoop
 pub mod RoundsLoop
--- That the laws are not empty.
+-- A system with two agreeing vectors.
 pub mod TwoVectors

@@ -2,7 +2,7 @@
 use Prim.Native.Nat.{◌+◌}
 use native.Mathlib.Omega.{arith}
 use Rattle.rounds.specs.Rounds.{reply}
-use Rattle.rounds.specs.SolverLoop.{climbing_spent, climbing_found, climbing_over, climbing_next}
+use Rattle.rounds.proofs.SolverLoop.{climbing_spent, climbing_found, climbing_over, climbing_next}
 use Rattle.analysis.specs.declared.Answer.TheVariants.{Bound, Nothing}
 use Rattle.analysis.proofs.Table.{equations_of, side_rises, begins, too_long, replied, refused}
 use Rattle.analysis.proofs.solver.solve.Goals as goal

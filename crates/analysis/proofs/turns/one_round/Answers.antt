@@ -1,7 +1,7 @@
 -- What is left of `analysis::turns::one_round`.
 use mathlib.Core.Path.{refl}
 use native.Mathlib.Omega.{arith}
-use Rattle.rounds.specs.RoundLoop.{turned_start}
+use Rattle.rounds.proofs.RoundLoop.{turned_start}
 use Rattle.analysis.specs.Rounding.{progress}
 use Rattle.analysis.proofs.Table.{equations_of}
 use Rattle.analysis.proofs.Turning.{way_sized, solvable, replied_at, spent_round, next_turn, done_round}

@@ -4,7 +4,7 @@ use Rattle.std.proofs.Common.{ap, arith, length-set, get_or-set_same, ltb-true}
 use Rattle.rounds.specs.Answer.{Answer, bound, none}
 use Rattle.rounds.specs.Rounds.{lowers, lowered}
 use Rattle.rounds.specs.Vector.{at, ◌⊑◌, same}
-use Rattle.rounds.specs.VectorLaws.{⊑_refl, not_same, set_below, at_inside}
+use Rattle.rounds.proofs.VectorLaws.{⊑_refl, not_same, set_below, at_inside}
 
 -- The number of values stays.
 pub lowered_length : (v : List ℕ) (i : ℕ) (a : Answer) → length (lowered v i a) ≡ length v

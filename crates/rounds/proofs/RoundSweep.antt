@@ -3,14 +3,16 @@ use Rattle.std.specs.Prelude.{◌≡◌, refl, Bool, true, false, cond, List, �
 use Rattle.std.proofs.Math.Path.{sym}
 use Rattle.std.proofs.Common.{ap, ◌∙◌, le_refl, le_of_eq, arith, length-set, get_or-set_same, ltb-true, ltb-false}
 use Rattle.rounds.specs.Answer.{Answer, bound, none, value}
-use Rattle.rounds.specs.OnWay.{OnWay, on_way_step}
-use Rattle.rounds.specs.RoundLaws.{turns_keep, turns_below, turns_held}
+use Rattle.rounds.specs.OnWay.{OnWay}
+use Rattle.rounds.proofs.OnWay.{on_way_step}
+use Rattle.rounds.proofs.RoundLaws.{turns_keep, turns_below, turns_held}
 use Rattle.rounds.specs.Rounds.{Progress, reply, lowers, lowered, turn, turns, round}
 use Rattle.rounds.specs.Sweep.{Sweeps}
 use Rattle.rounds.specs.System.{System, size, deadline, Lawful}
 use Rattle.rounds.specs.Vector.{at}
-use Rattle.rounds.specs.VectorLaws.{at_set, set_below}
-use Rattle.rounds.specs.Worth.{worth, reply_any}
+use Rattle.rounds.proofs.VectorLaws.{at_set, set_below}
+use Rattle.rounds.specs.Worth.{worth}
+use Rattle.rounds.proofs.Worth.{reply_any}
 
 module _ (S : System) (L : Lawful S) where
   -- ---- one turn

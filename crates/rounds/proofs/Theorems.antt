@@ -5,15 +5,17 @@ use Rattle.std.proofs.Common.{◌∙◌, arith}
 use Prim.Native.Nat.{ℕ, suc, ◌≤◌, ◌<◌}
 use Rattle.std.proofs.Math.Decide.{dec_le}
 use Rattle.rounds.specs.Answer.{Right, value}
-use Rattle.rounds.specs.LastRound.{Reached, last_reached, last_more, last_ends, last_on_way}
-use Rattle.rounds.specs.OnWay.{OnWay, on_way_start}
-use Rattle.rounds.specs.RoundLaws.{turns_held}
-use Rattle.rounds.specs.RoundSweep.{round_sweeps}
+use Rattle.rounds.specs.LastRound.{Reached}
+use Rattle.rounds.proofs.LastRound.{last_reached, last_more, last_ends, last_on_way}
+use Rattle.rounds.specs.OnWay.{OnWay}
+use Rattle.rounds.proofs.OnWay.{on_way_start}
+use Rattle.rounds.proofs.RoundLaws.{turns_held}
+use Rattle.rounds.proofs.RoundSweep.{round_sweeps}
 use Rattle.rounds.specs.Rounds.{reply, turns, round, last_from, begin, before_last, analysis, answer}
-use Rattle.rounds.specs.Sweep.{sweep_stop}
+use Rattle.rounds.proofs.Sweep.{sweep_stop}
 use Rattle.rounds.specs.System.{System, size, deadline, Lawful, Final}
 use Rattle.rounds.specs.Vector.{at, sum}
-use Rattle.rounds.specs.Worth.{reply_any, reply_right, agrees_worth}
+use Rattle.rounds.proofs.Worth.{reply_any, reply_right, agrees_worth}
 
 module _ (S : System) (L : Lawful S) where
   -- The rounds end: the last one changes no value.

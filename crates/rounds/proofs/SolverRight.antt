@@ -3,9 +3,10 @@ use Rattle.std.specs.Prelude.{◌≡◌, refl, ◌↔◌, Bool, true, false, ℕ
 use Rattle.std.proofs.Common.{subst, ◌∙◌, arith, ltb-true, ltb-false}
 use Rattle.std.proofs.Math.Decide.{le_ind}
 use Rattle.rounds.specs.Answer.{bound, none, Solution, Least, Right, Strong}
-use Rattle.rounds.specs.AnswerLaws.{right_unique, strong_right}
+use Rattle.rounds.proofs.AnswerLaws.{right_unique, strong_right}
 use Rattle.rounds.specs.Solver.{climb, solve}
-use Rattle.rounds.specs.SolverSteps.{Told, found, over, next, told, climb_found, climb_over, climb_next, solve_over, solve_climb}
+use Rattle.rounds.specs.SolverSteps.{Told, found, over, next}
+use Rattle.rounds.proofs.SolverSteps.{told, climb_found, climb_over, climb_next, solve_over, solve_climb}
 
 -- ---- the climb, over a right side that rises
 

@@ -3,12 +3,12 @@ use Rattle.std.specs.Prelude.{◌≡◌, refl, Bool, true, false, ℕ, ◌≤◌
 use Rattle.std.proofs.Common.{sym, ◌∙◌, le_refl, le_trans, arith}
 use Rattle.std.proofs.Math.Decide.{le_ind}
 use Rattle.std.proofs.lemmas.Bool.{not-true, not-false}
-use Rattle.rounds.specs.LoweredLaws.{lowered_length, lowered_below}
+use Rattle.rounds.proofs.LoweredLaws.{lowered_length, lowered_below}
 use Rattle.rounds.specs.Rounds.{Progress, reply, turn, turns, round, changed}
-use Rattle.rounds.specs.SolverSteps.{solve_grows}
+use Rattle.rounds.proofs.SolverSteps.{solve_grows}
 use Rattle.rounds.specs.System.{System, size, deadline}
 use Rattle.rounds.specs.Vector.{◌⊑◌, same}
-use Rattle.rounds.specs.VectorLaws.{⊑_refl, ⊑_trans, ⊑-antisymm, same_true, same_false, same_refl, not_same}
+use Rattle.rounds.proofs.VectorLaws.{⊑_refl, ⊑_trans, ⊑-antisymm, same_true, same_false, same_refl, not_same}
 
 -- ---- turns
 

@@ -3,10 +3,10 @@ use Rattle.std.specs.Prelude.{◌≡◌, List, ℕ, ◌≤◌, ◌<◌, length}
 use Rattle.std.proofs.Common.{sym, ◌∙◌, arith}
 use Rattle.std.proofs.Math.Decide.{dec_lt}
 use Rattle.std.proofs.Math.ListN.{get_or-eq_default}
-use Rattle.rounds.specs.AnswerLaws.{value_within}
+use Rattle.rounds.proofs.AnswerLaws.{value_within}
 use Rattle.rounds.specs.System.{System, size, deadline, Agrees, Final}
 use Rattle.rounds.specs.Vector.{at, ◌⊑◌}
-use Rattle.rounds.specs.VectorLaws.{⊑-antisymm}
+use Rattle.rounds.proofs.VectorLaws.{⊑-antisymm}
 
 -- There is at most one final vector.
 pub final_unique : (S : System) (v w : List ℕ) → Final S v → Final S w → v ≡ w
