@@ -1,12 +1,12 @@
 -- The three ends of a call: the state is unfit, the call is refused, or it is granted and the running job is started.
 use mathlib.Core.Path.{◌≡◌, refl, sym, ap, ◌∙◌}
 use mathlib.Core.List.{List, []}
-use mathlib.Core.Bool.{Bool, true, false, not}
+use mathlib.Core.Bool.{Bool, true, false}
 use Prim.Native.Nat.{ℕ, ◌≤◌, ◌<◌}
 use native.Mathlib.Omega.{arith}
 use lib.ListN.{length, length-set}
 use lib.Seq.{get_or-set_same, get_or-set_other}
-use borrow.Author.Tests.{eq-eqb, not-true}
+use borrow.Author.Tests.{eq-eqb}
 use Rattle.protocol.specs.Tasks.{Table}
 use Rattle.searches.specs.Searches.{Place, nowhere, at}
 use Rattle.protocol.specs.State.{State}
@@ -44,8 +44,8 @@ unfolding step
 unfit_replied {s} c Z e = reply_same s (step in_force (table_of s) (state_of s) c) _ (rw e) (rw (e, e)) (rw e (written_again Z (beside_self s)))
 
 -- so answers the code
-pub unfit_answered : (s : Scheduler) (c : Call) (b : Bool) → Sized s → Tested s b → not b ≡ true → unfit_reply s ≡ replied s c
-unfit_answered s c b Z e h = unfit_replied c Z (sym (fit_view s) ∙ sym e ∙ not-true b h)
+pub unfit_answered : (s : Scheduler) (c : Call) (b : Bool) → Sized s → Tested s b → b ≡ false → unfit_reply s ≡ replied s c
+unfit_answered s c b Z e h = unfit_replied c Z (sym (fit_view s) ∙ sym e ∙ h)
 
 -- ---- refused
 

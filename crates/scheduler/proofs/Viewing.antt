@@ -1,10 +1,10 @@
 -- What the scans answer is the machine's, on the whole view.
 use mathlib.Core.Path.{◌≡◌, refl, sym, ◌∙◌}
 use mathlib.Core.List.{[]}
-use mathlib.Core.Bool.{Bool, true, false, not}
+use mathlib.Core.Bool.{Bool, true}
 use Prim.Native.Nat.{ℕ, ◌≤◌, ◌<◌}
 use native.Mathlib.Omega.{arith}
-use borrow.Author.Tests.{lt-ltb, le-ltb, not-false}
+use borrow.Author.Tests.{lt-ltb, le-ltb}
 use Rattle.protocol.specs.Tasks.{priority, setting}
 use Rattle.searches.specs.Searches.{Place, nowhere, at}
 use Rattle.protocol.specs.Running.{ceiling, system_priority, system_ceiling, in_force, running}
@@ -79,5 +79,5 @@ Tested s b =
     b ≡ fit (tasks_by s.tasks s.priorities s.settings [] s.uses) (opening (sections_by s.places s.resources s.sections))
 
 -- so says the code's
-pub fit_passed : (s : Scheduler) (b : Bool) → Tested s b → not b ≡ false → Fit s
-fit_passed s b e h = fit_known s (sym (fit_view s) ∙ sym e ∙ not-false b h)
+pub fit_passed : (s : Scheduler) (b : Bool) → Tested s b → b ≡ true → Fit s
+fit_passed s b e h = fit_known s (sym (fit_view s) ∙ sym e ∙ h)

@@ -1,5 +1,6 @@
 // The lock scheduler: its state is carried by value, one array to a field, and each call answers the next state.
 #![tactic(auto)]
+
 ghost use Rattle.std.specs.Prelude.{◌≡◌, [], ◌≤◌};
 ghost use Rattle.protocol.specs.Step.{number_at};
 ghost use Rattle.arrays.specs.View.{ranked, entries_by, place_of};
