@@ -1,5 +1,6 @@
 // The report on a table: its analysis, with a row for each task in a list that the host lends.
 #![tactic(auto)]
+
 ghost use Rattle.std.specs.Prelude.{◌≡◌, ◌++◌, ◌≤◌, length, take, drop};
 ghost use Rattle.report.specs.Reporting.{reported, rows_after};
 
