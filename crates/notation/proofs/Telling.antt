@@ -8,7 +8,7 @@ use native.Mathlib.Omega.{arith}
 use native.Mathlib.Decide.{ℕ_discrete, dec_le, dec_lt}
 use borrow.Author.Tests.{eq-eqb, le-leb, lt-leb, lt-ltb, le-ltb, ltb-true, ltb-false, leb-true, leb-false, eqb-true, eqb-false}
 use lib.Dec.{ltb, leb, eqb}
-use lib.ListN.{length, get_or}
+use lib.ListN.{get_or}
 use Rattle.searches.specs.Indexed.{sum_to}
 use Rattle.searches.proofs.Testing.{impossible, and_true, true_and}
 use Rattle.table.specs.declared.walk.Walk.{Walk}

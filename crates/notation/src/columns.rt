@@ -7,6 +7,7 @@ ghost use Rattle.notation.specs.Columns.{name, least, most, width, wide, offset,
 use words::{put_text, same};
 
 // Whether a word is the name of a column.
+#[tactic(auto, unfolding(crate::specs::Columns::name))]
 pub fn is_name(word: &[u8], column: u8) -> bool
     ensures { result ≡ same word.now (name column) }
 {
@@ -27,6 +28,7 @@ pub fn is_name(word: &[u8], column: u8) -> bool
 }
 
 // Puts the name of a column.
+#[tactic(auto, unfolding(crate::specs::Columns::name))]
 pub fn put_name(out: &mut [u8], at: usize, column: u8) -> usize
     requires { at + 8 ≤ length out.old }
     ensures put { Put out.old at (name column) out.new result }
@@ -49,6 +51,7 @@ pub fn put_name(out: &mut [u8], at: usize, column: u8) -> usize
 }
 
 // The least value of a column.
+#[tactic(auto, unfolding(crate::specs::Columns::least))]
 pub fn least(column: u8) -> u32
     ensures { result ≡ least column }
 {
@@ -59,6 +62,7 @@ pub fn least(column: u8) -> u32
 }
 
 // The largest value of a column.
+#[tactic(auto, unfolding(crate::specs::Columns::most))]
 pub fn most(column: u8) -> u32
     ensures { result ≡ most column }
 {
@@ -72,6 +76,7 @@ pub fn most(column: u8) -> u32
 }
 
 // How many digits are laid out for a value of a column.
+#[tactic(auto, unfolding(crate::specs::Columns::width))]
 pub fn width(column: u8) -> usize
     ensures { (result ≡ width column) × (result ≤ 7) }
 {
@@ -84,6 +89,7 @@ pub fn width(column: u8) -> usize
 }
 
 // Whether a value of a column has four bytes.
+#[tactic(auto, unfolding(crate::specs::Columns::wide))]
 pub fn is_wide(column: u8) -> bool
     ensures { result ≡ wide column }
 {

@@ -10,6 +10,7 @@ use crate::columns::{least, most, put_name};
 use words::{put, put_found, put_text, run_end};
 
 // Puts what was expected, up to the name of a column.
+#[tactic(auto, unfolding(crate::specs::Faults::expected))]
 fn put_expected(out: &mut [u8], at: usize, cause: u8) -> usize
     requires { at + 28 ≤ length out.old }
     ensures put { Put out.old at (expected cause) out.new result }
@@ -37,6 +38,7 @@ fn put_between(out: &mut [u8], at: usize, cause: u8) -> usize
 }
 
 // Puts the limit that a value passes.
+#[tactic(auto, unfolding(crate::specs::Faults::limit))]
 fn put_limit(out: &mut [u8], at: usize, cause: u8, column: u8) -> usize
     requires { at + 30 ≤ length out.old }
     ensures put { Put out.old at (limit cause column) out.new result }
@@ -76,6 +78,7 @@ fn put_word_text(out: &mut [u8], at: usize, text: &[u8], fault: Fault) -> usize
 }
 
 // Puts the words before the first value of a reason, and the value.
+#[tactic(auto, unfolding(crate::specs::Faults::opening))]
 fn put_opening(out: &mut [u8], at: usize, cause: u8, value: u64) -> usize
     requires { at + 41 ≤ length out.old }
     ensures put { Put out.old at (labelled (opening cause) value) out.new result }
@@ -94,6 +97,7 @@ fn put_opening(out: &mut [u8], at: usize, cause: u8, value: u64) -> usize
 }
 
 // Puts the words before the second value of a reason, and the value.
+#[tactic(auto, unfolding(crate::specs::Faults::middle))]
 fn put_middle(out: &mut [u8], at: usize, cause: u8, value: u64) -> usize
     requires { at + 68 ≤ length out.old }
     ensures put { Put out.old at (labelled (middle cause) value) out.new result }
@@ -119,6 +123,7 @@ fn put_middle(out: &mut [u8], at: usize, cause: u8, value: u64) -> usize
 }
 
 // Puts the words after the second value of a reason.
+#[tactic(auto, unfolding(crate::specs::Faults::closing))]
 fn put_closing(out: &mut [u8], at: usize, cause: u8) -> usize
     requires { at + 84 ≤ length out.old }
     ensures put { Put out.old at (closing cause) out.new result }
@@ -147,6 +152,7 @@ fn put_reason(out: &mut [u8], at: usize, fault: Fault) -> usize
 }
 
 // Puts a fault of the whole text.
+#[tactic(auto, unfolding(crate::specs::Faults::whole_text))]
 fn put_whole(out: &mut [u8], at: usize, cause: u8) -> usize
     requires { at + 42 ≤ length out.old }
     ensures put { Put out.old at (whole_text cause) out.new result }

@@ -1,5 +1,6 @@
 // The text form of a table: the text of a table's bytes, and the bytes of a text.
 #![tactic(auto)]
+
 ghost use Rattle.std.specs.Prelude.{◌≡◌, ◌++◌, length, drop};
 ghost use Rattle.io.specs.Counts.{IsPrefixLen};
 ghost use Rattle.words.specs.Text.{fitted};
@@ -50,7 +51,7 @@ pub fn pack(text: &[u8], out: &mut [u8]) -> Packing
     if out.len() < count {
         return stepping::whole(1, 19);
     }
-    bytes::copy(&records[..count], out);
+    out[..count].copy_from_slice(&records[..count]);
     packing
 }
 
