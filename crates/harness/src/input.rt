@@ -1,9 +1,27 @@
 // Reading the parts of a case.
-ghost use Rattle.std.specs.Prelude.{◌≤◌, length};
+ghost use Rattle.std.specs.Prelude.{◌≤◌, length, IfOk};
+
+use std::io;
+use std::io::Read;
+
+// Fills the buffer from the input, up to its end, and answers how many bytes that are.
+pub fn read_full(input: &mut impl Read, buffer: &mut [u8]) -> io::Result<usize>
+    ensures { IfOk result (λ n. n ≤ length buffer.new) }
+{
+    let mut count = 0;
+    while count < buffer.len() {
+        let more = input.read(&mut buffer[count..])?;
+        if more == 0 {
+            break;
+        }
+        count += more;
+    }
+    Ok(count)
+}
 
 // Fills the buffer from the input and answers whether there was enough.
-pub fn filled(fd: i32, buffer: &mut [u8]) -> bool {
-    io::read_full(fd, buffer) == buffer.len()
+pub fn filled(input: &mut impl Read, buffer: &mut [u8]) -> io::Result<bool> {
+    Ok(read_full(input, buffer)? == buffer.len())
 }
 
 // The first bytes of a buffer, as many as asked.
