@@ -4,6 +4,8 @@ use crate::{Turn, on, over};
 use harness::input::filled;
 use harness::output::{end_line, put};
 use scheduler::Scheduler;
+use std::io;
+use std::io::{Read, Write};
 use table::{byte_at, word_at};
 
 // A burst so far: the scheduler, and the checksum of the answers.
@@ -39,13 +41,13 @@ fn often(scheduler: Scheduler, priority: u8, count: u32) -> Burst {
 }
 
 // Reads the rest of such a case, prints its line and answers the next scheduler.
-pub fn run(fd: i32, scheduler: Scheduler) -> Turn {
+pub fn run(input: &mut impl Read, out: &mut impl Write, scheduler: Scheduler) -> io::Result<Turn> {
     let mut bytes = [0u8; 5];
-    if !filled(fd, &mut bytes) {
-        return over(scheduler);
+    if !filled(input, &mut bytes)? {
+        return Ok(over(scheduler));
     }
     let burst = often(scheduler, byte_at(&bytes, 0), word_at(&bytes, 1));
-    put(b"burst ", burst.sum);
-    end_line();
-    on(burst.scheduler)
+    put(out, b"burst ", burst.sum)?;
+    end_line(out)?;
+    Ok(on(burst.scheduler))
 }

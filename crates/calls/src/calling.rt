@@ -5,6 +5,8 @@ use crate::replies::put_answer;
 use crate::{Turn, on, over};
 use harness::input::{filled, front, short_at};
 use scheduler::{Number, Reply, Scheduler};
+use std::io;
+use std::io::{Read, Write};
 use table::byte_at;
 
 // How many bytes follow a call's letter, 0 where it is none.
@@ -32,26 +34,36 @@ fn call(scheduler: Scheduler, kind: u8, job: Number, resource: u8) -> Reply {
 }
 
 // Makes a call and prints its line.
-fn put_call(scheduler: Scheduler, kind: u8, bytes: &[u8]) -> Scheduler {
+fn put_call(
+    out: &mut impl Write,
+    scheduler: Scheduler,
+    kind: u8,
+    bytes: &[u8],
+) -> io::Result<Scheduler> {
     let job = Number {
         priority: byte_at(bytes, 0),
         serial: short_at(bytes, 1) as u16,
     };
     let reply = call(scheduler, kind, job, byte_at(bytes, 3));
     let running = reply.running;
-    put_answer(reply.refusal, running);
-    reply.state
+    put_answer(out, reply.refusal, running)?;
+    Ok(reply.state)
 }
 
 // Reads the rest of such a case, prints its line and answers the next scheduler.
-pub fn run(fd: i32, scheduler: Scheduler, kind: u8) -> Turn {
+pub fn run(
+    input: &mut impl Read,
+    out: &mut impl Write,
+    scheduler: Scheduler,
+    kind: u8,
+) -> io::Result<Turn> {
     let mut bytes = [0u8; 4];
     let length = length_of(kind);
     if length == 0 {
-        return over(scheduler);
+        return Ok(over(scheduler));
     }
-    if !filled(fd, front(&mut bytes, length)) {
-        return over(scheduler);
+    if !filled(input, front(&mut bytes, length))? {
+        return Ok(over(scheduler));
     }
-    on(put_call(scheduler, kind, &bytes))
+    Ok(on(put_call(out, scheduler, kind, &bytes)?))
 }

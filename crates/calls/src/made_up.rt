@@ -5,28 +5,39 @@ use crate::{Turn, on, over};
 use harness::input::{filled, front, short_at};
 use harness::output::{end_line, put};
 use scheduler::Scheduler;
+use std::io;
+use std::io::{Read, Write};
 use table::byte_at;
 
 // Sets the scheduler up on a table from the input, and prints the line of that.
-fn on_table(fd: i32, scheduler: Scheduler, bytes: &mut [u8]) -> Turn {
-    if !filled(fd, bytes) {
-        return over(scheduler);
+fn on_table(
+    input: &mut impl Read,
+    out: &mut impl Write,
+    scheduler: Scheduler,
+    bytes: &mut [u8],
+) -> io::Result<Turn> {
+    if !filled(input, bytes)? {
+        return Ok(over(scheduler));
     }
     let ready = scheduler::set_up(bytes);
-    put(b"set up ", ready.refusal.number as u64);
-    put(b" at ", ready.refusal.place as u64);
-    end_line();
-    on(ready.scheduler)
+    put(out, b"set up ", ready.refusal.number as u64)?;
+    put(out, b" at ", ready.refusal.place as u64)?;
+    end_line(out)?;
+    Ok(on(ready.scheduler))
 }
 
 // Reads the rest of a case that sets the scheduler up.
-pub fn set_up(fd: i32, scheduler: Scheduler) -> Turn {
+pub fn set_up(
+    input: &mut impl Read,
+    out: &mut impl Write,
+    scheduler: Scheduler,
+) -> io::Result<Turn> {
     let mut head = [0u8; 2];
-    if !filled(fd, &mut head) {
-        return over(scheduler);
+    if !filled(input, &mut head)? {
+        return Ok(over(scheduler));
     }
     let mut bytes = [0u8; 65535];
-    on_table(fd, scheduler, front(&mut bytes, short_at(&head, 0)))
+    on_table(input, out, scheduler, front(&mut bytes, short_at(&head, 0)))
 }
 
 // One byte of each of 32 records, that at a place in it.
@@ -111,10 +122,10 @@ fn scheduler_of(bytes: &[u8]) -> Scheduler {
 }
 
 // Reads the rest of a case that makes a scheduler up.
-pub fn run(fd: i32, scheduler: Scheduler) -> Turn {
+pub fn run(input: &mut impl Read, scheduler: Scheduler) -> io::Result<Turn> {
     let mut bytes = [0u8; 1348];
-    if !filled(fd, &mut bytes) {
-        return over(scheduler);
+    if !filled(input, &mut bytes)? {
+        return Ok(over(scheduler));
     }
-    on(scheduler_of(&bytes))
+    Ok(on(scheduler_of(&bytes)))
 }

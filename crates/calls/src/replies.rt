@@ -2,18 +2,20 @@
 use harness::output::{end_line, put, put_text};
 use harness::sums::mixed;
 use scheduler::{Number, Running};
+use std::io;
+use std::io::Write;
 
 // Prints the line of an answer.
-pub fn put_answer(refusal: u8, running: Running) {
-    put(b"", refusal as u64);
+pub fn put_answer(out: &mut impl Write, refusal: u8, running: Running) -> io::Result<()> {
+    put(out, b"", refusal as u64)?;
     match running {
-        Running::Idle => put_text(b" idle"),
+        Running::Idle => put_text(out, b" idle")?,
         Running::Runs(job) => {
-            put(b" ", job.priority as u64);
-            put(b" ", job.serial as u64);
+            put(out, b" ", job.priority as u64)?;
+            put(out, b" ", job.serial as u64)?;
         }
     }
-    end_line();
+    end_line(out)
 }
 
 // The checksum after a running job, or after idle.

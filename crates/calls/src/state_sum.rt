@@ -3,6 +3,8 @@ use crate::{Turn, on};
 use harness::output::{end_line, put};
 use harness::sums::mixed;
 use scheduler::Scheduler;
+use std::io;
+use std::io::Write;
 use table::byte_at;
 
 // The checksum after so many bytes from a place on.
@@ -85,13 +87,13 @@ fn with_slots(h: u64, scheduler: Scheduler) -> u64 {
 }
 
 // Prints the line of a state; the scheduler stays.
-pub fn run(scheduler: Scheduler) -> Turn {
+pub fn run(out: &mut impl Write, scheduler: Scheduler) -> io::Result<Turn> {
     let counts = mixed(mixed(0, scheduler.tasks as u64), scheduler.sections as u64);
     let sum = with_slots(
         with_entries(with_all_rules(counts, scheduler), scheduler),
         scheduler,
     );
-    put(b"state ", sum);
-    end_line();
-    on(scheduler)
+    put(out, b"state ", sum)?;
+    end_line(out)?;
+    Ok(on(scheduler))
 }
