@@ -1,5 +1,6 @@
 // What a C program links to count instructions: many analyses of a table, or a list of calls gone through many times, in one call.
 #![tactic(auto)]
+
 mod calling;
 mod sums;
 
