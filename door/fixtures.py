@@ -27,18 +27,28 @@ cat '{root}/reply.{name}'
 {ending}
 """
 
-# A stand-in for the toolchain: it notes its words, and leaves a stamp and a program for each crate that is named, or fails at one.
+# A stand-in for the toolchain: it notes its word and the crate in whose folder it is called, and leaves a stamp, and the program where it is one,
+# which it has print what it should or what it is told; or it fails at one crate.
 TOOLCHAIN = """#!/bin/sh
-[ "$1" != doc ] || exec echo '{root}/kit/docs/START-HERE.md'
-echo "$*" >>'{root}/toolchain'
-[ "$1" = check ] || exit 2
-shift
-for crate in "$@"; do
-  [ "$crate" != '{failing}' ] || {{ echo "rt: $crate NOT PROVED"; exit 1; }}
-  mkdir -p target/stamp target/bin
-  : >"target/stamp/$crate"
-  [ ! -f '{root}/program.'"$crate" ] || cp '{root}/program.'"$crate" "target/bin/$crate"
-done
+[ "$1" != doc ] || exec echo '{root}/kit/START-HERE.md'
+crate=$(basename "$PWD")
+echo "$1 $crate" >>'{root}/toolchain'
+[ "$crate" != '{failing}' ] || {{ echo "rt: $crate NOT PROVED"; exit 1; }}
+case $1 in
+lib)
+  mkdir -p out/rlib
+  : >out/rlib/stamp
+  ;;
+run)
+  [ -f src/main.rt ] || exit 2
+  mkdir -p out
+  cp '{root}/program.'"$crate" "out/$crate"
+  : >"out/$crate.stamp"
+  cat >/dev/null
+  cat {prints}
+  ;;
+*) exit 2 ;;
+esac
 {meanwhile}
 """
 
@@ -64,8 +74,12 @@ class Door(unittest.TestCase):
         shutil.copy(ROOT / "door/prove", self.root / "door")
         shutil.copy(ROOT / "crates.txt", self.root)
         for name in self.crates():
-            (self.root / "crates" / name).mkdir(parents=True)
-            (self.root / "crates" / name / "lib.rt").touch()
+            crate = self.root / "crates" / name
+            (crate / "src").mkdir(parents=True)
+            (crate / "src" / ("main.rt" if name in PROGRAMS else "lib.rt")).touch()
+            if name in PROGRAMS:
+                (crate / "stdin").touch()
+                (crate / "stdout").write_bytes(ANSWERS[name])
         self.tools = self.folder / "tools"
         self.tools.mkdir()
         self.toolchain()
@@ -84,7 +98,8 @@ class Door(unittest.TestCase):
     def crates(self):
         lines = (ROOT / "crates.txt").read_text().splitlines()
         pairs = [line.split(":") for line in lines if line and not line.startswith("#")]
-        return {name: [word for word in words.split() if word in dict(pairs)] for name, words in pairs}
+        below = {name.split()[0]: words.split() for name, words in pairs}
+        return {name: [word for word in words if word in below] for name, words in below.items()}
 
     # The crates that these stand on, and they themselves.
     def needed(self, *names):
@@ -97,16 +112,19 @@ class Door(unittest.TestCase):
         return found
 
     # Put a stand-in for the toolchain on the path.
-    def toolchain(self, failing="", meanwhile=""):
-        self.script(self.tools / "rt", TOOLCHAIN.format(root=self.folder, failing=failing, meanwhile=meanwhile))
+    def toolchain(self, failing="", meanwhile="", prints="stdout"):
+        self.script(self.tools / "rt", TOOLCHAIN.format(root=self.folder, failing=failing, meanwhile=meanwhile, prints=prints))
 
     # Make a stand-in for a program, which the toolchain's stand-in builds.
     def program(self, name, reply, ending="exit 0"):
         (self.folder / f"reply.{name}").write_bytes(reply)
         self.script(self.folder / f"program.{name}", PROGRAM.format(root=self.folder, name=name, ending=ending))
-        built = self.root / "target/bin" / name
-        if built.exists():
-            shutil.copy(self.folder / f"program.{name}", built)
+        if self.built_at(name).exists():
+            shutil.copy(self.folder / f"program.{name}", self.built_at(name))
+
+    # Where the toolchain builds a program.
+    def built_at(self, name):
+        return self.root / "crates" / name / "out" / name
 
     # A path with nothing on it but the toolchain's stand-in, if it is there, and these tools.
     def bare_path(self, *tools):
@@ -121,10 +139,10 @@ class Door(unittest.TestCase):
 
     # Put all programs where they are built, marked as proved, so that calls prove nothing.
     def built(self):
-        for part in ("bin", "door"):
-            (self.root / "target" / part).mkdir(parents=True)
+        (self.root / "target/door").mkdir(parents=True)
         for name in PROGRAMS:
-            shutil.copy(self.folder / f"program.{name}", self.root / "target/bin" / name)
+            self.built_at(name).parent.mkdir()
+            shutil.copy(self.folder / f"program.{name}", self.built_at(name))
             (self.root / "target/door" / name).touch()
 
     # Forget what the programs and the toolchain noted.
@@ -160,7 +178,7 @@ class Door(unittest.TestCase):
     def ran(self):
         return [name for name in PROGRAMS if self.read_by(name) is not None]
 
-    # The words with which the toolchain was called.
+    # The words with which the toolchain was called, and the crates.
     def proved(self):
         note = self.folder / "toolchain"
         return [line.split() for line in note.read_text().splitlines()] if note.exists() else []

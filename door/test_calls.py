@@ -85,7 +85,7 @@ class Names(Built):
         for more in {"POSIXLY_CORRECT": "1"}, {"SHELLOPTS": "errexit:noclobber:posix"}, {"TMPDIR": "-x"}:
             with self.subTest(more=more):
                 around = self.around(**more)
-                (self.root / "crates/table/lib.rt").touch()
+                (self.root / "crates/table/src/lib.rt").touch()
                 outcome = self.call("bounds", data=TASK, around=around, cwd=self.folder)
                 self.assertEqual((outcome.status, outcome.out), (0, YES))
                 for name, reason in ("nothing", "read: No such file or directory"), ("/", "copied: Is a directory"):
@@ -117,7 +117,7 @@ class Names(Built):
         (self.spare / "house/door").mkdir(parents=True)
         around = self.around(CDPATH=str(self.spare))
         self.assertEqual(self.call("bounds", data=TABLE, door="house/quasdrom", cwd=self.folder, around=around).status, 0)
-        self.assertEqual((self.folder / "where").read_text(), f"{self.root.resolve()}\n")
+        self.assertEqual((self.folder / "where").read_text(), f"{self.root.resolve()}/crates/bounds\n")
         (self.spare / "house/door").rmdir()
         (self.spare / "house").rmdir()
 

@@ -12,14 +12,14 @@ import unittest
 
 from fixtures import NO, PATIENCE, TABLE, TASK, YES, Door
 
-LINE = re.compile(r"quasdrom: proving (\w+(?:, \w+)*(?: and \w+)?), (\d+) left")
+LINE = re.compile(r"quasdrom: proving (\w+), (\d+) left")
 
 
-# The crates that each line tells, and how many it says are left.
+# The crate that each line tells, and how many it says are left.
 def told(lines):
     matches = [LINE.fullmatch(line) for line in lines]
     assert all(matches), lines
-    return [(re.split(", | and ", match[1]), int(match[2])) for match in matches]
+    return [(match[1], int(match[2])) for match in matches]
 
 
 # Proving on first use and later.
@@ -27,11 +27,10 @@ class Proving(Door):
     # See to it that lines tell each crate once, behind those that it stands on, and how many are left.
     def assert_told(self, lines, crates):
         seen = set()
-        for names, left in told(lines):
-            for name in names:
-                self.assertLessEqual(set(self.crates()[name]) & crates, seen)
-            self.assertEqual(left, len(crates) - len(seen) - len(names))
-            seen |= set(names)
+        for name, left in told(lines):
+            self.assertLessEqual(set(self.crates()[name]) & crates, seen)
+            seen.add(name)
+            self.assertEqual(left, len(crates) - len(seen))
         self.assertEqual(seen, crates)
 
     # On first use all crates of the programs are proved, told as plain lines; the next call proves nothing and tells nothing.
@@ -47,24 +46,17 @@ class Proving(Door):
                 self.assertEqual(first, f"quasdrom: {len(crates)} crates are to be proved first: a few minutes, once")
                 self.assert_told(lines, crates)
                 self.assertRegex(last, r"^quasdrom: proved in \d+ s$")
-                self.assertEqual(self.proved()[-1], ["check", *programs])
+                self.assertEqual(self.proved()[-len(programs):], [["run", name] for name in programs])
                 self.forget()
                 self.assert_answer(self.call(command, data=data), 0, outcome.out)
                 self.assertEqual(self.proved(), [])
 
-    # Crates that can be proved side by side are, as many as there are processors.
-    def test_side_by_side(self):
-        for body, most in ("echo 3", 3), ("echo 1", 1), ("exit 1", 1), ("exit 0", 1), ("echo 0", 1):
-            self.script(self.tools / "nproc", f"#!/bin/sh\n{body}\n")
-            (self.root / "crates/searches/lib.rt").touch()
-            crates = self.needed("pack", "bounds")
-            lines = [line for line in self.call("bounds", data=TASK).told.splitlines() if " left" in line]
-            for names, _ in told(lines):
-                ready = {name for name in crates if not set(self.crates()[name]) & crates}
-                self.assertLessEqual(set(names), ready)
-                self.assertEqual(len(names), min(most, len(ready)))
-                crates -= set(names)
-            self.assertEqual(crates, set())
+    # Crates are proved one after the other, each in its own folder: libraries are built, programs built and tried.
+    def test_one_after_the_other(self):
+        outcome = self.call("bounds", data=TASK)
+        names = [name for name, _ in told(outcome.told.splitlines()[1:-1])]
+        programs = ["pack", "bounds"]
+        self.assertEqual(self.proved(), [["run" if name in programs else "lib", name] for name in names + programs])
 
     # What is proved already isn't told again: another program needs what is new to it.
     def test_rest(self):
@@ -76,7 +68,7 @@ class Proving(Door):
     # After an edit the crate and those above it are proved again, in fewer than minutes.
     def test_edit(self):
         self.call("bounds", data=TABLE)
-        (self.root / "crates/analysis/lib.rt").touch()
+        (self.root / "crates/analysis/src/lib.rt").touch()
         outcome = self.call("bounds", data=TABLE)
         self.assertNotIn("minutes", outcome.told)
         self.assert_told(outcome.told.splitlines()[:-1], {name for name in self.needed("bounds") if "analysis" in self.needed(name)})
@@ -85,11 +77,11 @@ class Proving(Door):
     # An edit of another crate, or of crates.txt, is looked into once; where nothing is to be proved, nothing is told.
     def test_other_edit(self):
         self.call("bounds", data=TABLE)
-        for path in "crates/timing/lib.rt", "crates.txt":
+        for path in "crates/timing/src/lib.rt", "crates.txt":
             self.forget()
             (self.root / path).touch()
             self.assert_answer(self.call("bounds", data=TABLE), 0, YES)
-            self.assertEqual(self.proved(), [["check", "bounds"]])
+            self.assertEqual(self.proved(), [["run", "bounds"]])
             self.forget()
             self.assert_answer(self.call("bounds", data=TABLE), 0, YES)
             self.assertEqual(self.proved(), [])
@@ -97,27 +89,27 @@ class Proving(Door):
     # A file that is taken away is an edit.
     def test_taken_away(self):
         self.call("bounds", data=TABLE)
-        (self.root / "crates/lines/lib.rt").unlink()
+        (self.root / "crates/lines/src/lib.rt").unlink()
         above = {name for name in self.needed("bounds") if "lines" in self.needed(name)}
         self.assert_told(self.call("bounds", data=TABLE).told.splitlines()[:-1], above)
 
     # An edit while the proofs run is seen by the next call.
     def test_edit_meanwhile(self):
-        self.toolchain(meanwhile="sleep 0.02; touch crates/table/lib.rt")
+        self.toolchain(meanwhile="sleep 0.02; touch ../table/src/lib.rt")
         self.call("bounds", data=TABLE)
         self.toolchain()
         self.forget()
         self.call("bounds", data=TABLE)
-        self.assertEqual(self.proved()[-1], ["check", "bounds"])
+        self.assertEqual(self.proved()[-1], ["run", "bounds"])
 
     # A program that is gone is built again.
     def test_program_gone(self):
         self.call("bounds", data=TABLE)
-        (self.root / "target/bin/bounds").unlink()
+        self.built_at("bounds").unlink()
         self.assert_answer(self.call("bounds", data=TABLE), 0, YES)
 
-    # Where all stands proved by the toolchain's own gate, nothing is told.
-    def test_after_the_gate(self):
+    # Where all stands proved, though no mark says so, nothing is told.
+    def test_without_marks(self):
         self.call("bounds", data=TABLE)
         for mark in (self.root / "target/door").iterdir():
             mark.unlink()
@@ -127,14 +119,23 @@ class Proving(Door):
     def test_not_proved(self):
         self.toolchain(failing="lines")
         self.call("bounds", data=TABLE)
-        (self.root / "target/bin").mkdir(parents=True, exist_ok=True)
-        self.program("bounds", YES)
-        self.script(self.root / "target/bin/bounds", (self.folder / "program.bounds").read_text())
+        self.built_at("bounds").parent.mkdir(exist_ok=True)
+        self.script(self.built_at("bounds"), (self.folder / "program.bounds").read_text())
         outcome = self.call("bounds", data=TABLE)
         reason = f"quasdrom: lines cannot be proved; {self.root.resolve()}/target/door/log has all that was said\n"
         self.assert_trouble(outcome, f"rt: lines NOT PROVED\n{reason}")
         self.assertEqual(self.ran(), [])
         self.assertIn("rt: lines NOT PROVED", (self.root / "target/door/log").read_text())
+        self.toolchain()
+        self.assertEqual(self.call("bounds", data=TABLE).out, YES)
+
+    # A program that prints on its own input what it should not is not run.
+    def test_failed_trial(self):
+        for prints in "/dev/null", "stdout stdout":
+            self.toolchain(prints=prints)
+            outcome = self.call("bounds", data=TABLE)
+            self.assertEqual((outcome.status, outcome.out, self.ran()), (2, b"", []))
+            self.assertIn("quasdrom: bounds cannot be proved; ", outcome.told)
         self.toolchain()
         self.assertEqual(self.call("bounds", data=TABLE).out, YES)
 
@@ -175,8 +176,8 @@ class Proving(Door):
             self.addCleanup(ending.cancel)
             self.assertEqual(call.stderr.readline(), b"quasdrom: waiting for another ./quasdrom, which is proving\n")
             self.assertEqual((call.poll(), self.proved()), (None, []))
-            (self.root / "target/bin").mkdir()
-            self.script(self.root / "target/bin/bounds", (self.folder / "program.bounds").read_text())
+            self.built_at("bounds").parent.mkdir()
+            self.script(self.built_at("bounds"), (self.folder / "program.bounds").read_text())
             (self.root / "target/door/bounds").touch()
         self.assertEqual(call.communicate(timeout=PATIENCE), (YES, b""))
         self.assertEqual(self.proved(), [])
@@ -235,7 +236,7 @@ class Terminal(Door):
         self.assertRegex(last, r"^quasdrom: proved in \d+ s$")
         self.assertEqual(rest, "")
         parts = [part.rstrip() for part in text.split("\n")[1].split("\r") if part.strip()]
-        self.assertEqual({name for names, _ in told(parts[:-1]) for name in names}, crates)
+        self.assertEqual({name for name, _ in told(parts[:-1])}, crates)
         self.assertNotIn("\x1b", text)
 
     # What fails is told on lines of its own.

@@ -19,7 +19,7 @@ NOTHING = (b"", b"verdict", b"verdict\n", b"verdict yesterday\n", b"verdict none
 ENDINGS = {"exit 1": "failed with status 1", "exit 3": "failed with status 3", "echo no >&2; exit 4": "failed with status 4: no",
            "kill -SEGV $$": "was ended by signal 11", "kill -KILL $$": "was ended by signal 9"}
 # The system's tools that the scripts call.
-TOOLS = ("cat", "find", "flock", "head", "mkdir", "mktemp", "nproc", "od", "readlink", "rm", "sed", "tail", "touch", "tr", "uname")
+TOOLS = ("cat", "cmp", "find", "flock", "head", "mkdir", "mktemp", "od", "readlink", "rm", "sed", "tail", "touch", "tr", "uname")
 # For each command an input that its program is run on.
 INPUTS = {"bounds": TABLE, "pack": TASK, "show": TABLE}
 
@@ -169,7 +169,7 @@ class Replies(Built):
     def test_no_program(self):
         for data in b"", b"\x7fELF no program\n", b"#!/nothing\n":
             with self.subTest(data=data):
-                (self.root / "target/bin/bounds").write_bytes(data)
+                self.built_at("bounds").write_bytes(data)
                 outcome = self.call("bounds", data=TABLE)
                 self.assertEqual((outcome.status, outcome.out), (2, b""))
                 self.assertIn("quasdrom: bounds ", outcome.told)
