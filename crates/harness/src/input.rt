@@ -1,4 +1,4 @@
-// Reading the parts of a case.
+// Reading an input, and the parts of a case.
 ghost use Rattle.std.specs.Prelude.{◌≤◌, length, IfOk};
 
 use std::io;

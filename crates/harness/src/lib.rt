@@ -1,4 +1,4 @@
-// What the programs that run the second program's cases read and print by.
+// What the programs read their input by, and those that run the second program's cases print by.
 #![tactic(auto)]
 
 pub mod input;
