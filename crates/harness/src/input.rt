@@ -1,12 +1,13 @@
 // Reading an input, and the parts of a case.
-ghost use Rattle.std.specs.Prelude.{◌≤◌, length, IfOk};
+ghost use Rattle.std.specs.Prelude.{◌≡◌, ◌≤◌, length, IfOk, OnErr};
 
 use std::io;
 use std::io::Read;
 
-// Fills the buffer from the input, up to its end, and answers how many bytes that are.
+// Fills the buffer from the input, up to its end, and answers how many bytes that are, or the input's error, which leaves the buffer its length.
 pub fn read_full(input: &mut impl Read, buffer: &mut [u8]) -> io::Result<usize>
-    ensures { IfOk result (λ n. n ≤ length buffer.new) }
+    ensures ok { IfOk result (λ n. n ≤ length buffer.new) }
+    ensures err { OnErr result (length buffer.new ≡ length buffer.old) }
 {
     let mut count = 0;
     while count < buffer.len() {
@@ -19,8 +20,10 @@ pub fn read_full(input: &mut impl Read, buffer: &mut [u8]) -> io::Result<usize>
     Ok(count)
 }
 
-// Fills the buffer from the input and answers whether there was enough.
-pub fn filled(input: &mut impl Read, buffer: &mut [u8]) -> io::Result<bool> {
+// Fills the buffer from the input and answers whether there was enough, or the input's error, which leaves the buffer its length.
+pub fn filled(input: &mut impl Read, buffer: &mut [u8]) -> io::Result<bool>
+    ensures { OnErr result (length buffer.new ≡ length buffer.old) }
+{
     Ok(read_full(input, buffer)? == buffer.len())
 }
 
