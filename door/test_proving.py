@@ -93,6 +93,21 @@ class Proving(Door):
         above = {name for name in self.needed("bounds") if "lines" in self.needed(name)}
         self.assert_told(self.call("bounds", data=TABLE).told.splitlines()[:-1], above)
 
+    # So is a whole part of a crate that is taken away, or put there.
+    def test_part_taken_away(self):
+        self.call("bounds", data=TABLE)
+        shutil.move(self.root / "crates/lines/src", self.spare)
+        self.toolchain(failing="bounds")
+        outcome = self.call("bounds", data=TABLE)
+        self.assertEqual((outcome.status, outcome.out), (2, b""))
+        shutil.move(self.spare / "src", self.root / "crates/lines")
+        self.toolchain()
+        self.assert_answer(self.call("bounds", data=TABLE), 0, YES)
+        self.forget()
+        (self.root / "crates/lines/proofs").mkdir()
+        self.call("bounds", data=TABLE)
+        self.assertEqual(self.proved()[-1], ["run", "bounds"])
+
     # An edit while the proofs run is seen by the next call.
     def test_edit_meanwhile(self):
         self.toolchain(meanwhile="sleep 0.02; touch ../table/src/lib.rt")
@@ -178,7 +193,7 @@ class Proving(Door):
             self.assertEqual((call.poll(), self.proved()), (None, []))
             self.built_at("bounds").parent.mkdir()
             self.script(self.built_at("bounds"), (self.folder / "program.bounds").read_text())
-            (self.root / "target/door/bounds").touch()
+            self.mark("bounds")
         self.assertEqual(call.communicate(timeout=PATIENCE), (YES, b""))
         self.assertEqual(self.proved(), [])
 

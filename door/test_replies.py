@@ -19,7 +19,7 @@ NOTHING = (b"", b"verdict", b"verdict\n", b"verdict yesterday\n", b"verdict none
 ENDINGS = {"exit 1": "failed with status 1", "exit 3": "failed with status 3", "echo no >&2; exit 4": "failed with status 4: no",
            "kill -SEGV $$": "was ended by signal 11", "kill -KILL $$": "was ended by signal 9"}
 # The system's tools that the scripts call.
-TOOLS = ("cat", "cmp", "find", "flock", "head", "mkdir", "mktemp", "od", "readlink", "rm", "sed", "tail", "touch", "tr", "uname")
+TOOLS = ("cat", "cmp", "cp", "find", "flock", "head", "mkdir", "mktemp", "od", "readlink", "rm", "sed", "tail", "tr", "uname")
 # For each command an input that its program is run on.
 INPUTS = {"bounds": TABLE, "pack": TASK, "show": TABLE}
 
