@@ -1,4 +1,4 @@
-// What a C program links to count instructions: many analyses of a table, or a list of calls gone through many times, in one call.
+// What is counted in instructions: many analyses of a table, or a list of calls gone through many times, in one call.
 #![tactic(auto)]
 
 mod calling;
@@ -7,8 +7,7 @@ mod sums;
 use sums::{mixed, with_analysis};
 
 // Analyses a table so many times, with an allowance that grows by one each time, and answers the checksum of all that was answered.
-#[unsafe(no_mangle)]
-pub extern "C" fn quasdrom_analyses(bytes: &[u8], allowance: u64, times: u64) -> u64 {
+pub fn quasdrom_analyses(bytes: &[u8], allowance: u64, times: u64) -> u64 {
     let mut sum: u64 = 0;
     let mut i: u64 = 0;
     while i < times {
@@ -20,8 +19,7 @@ pub extern "C" fn quasdrom_analyses(bytes: &[u8], allowance: u64, times: u64) ->
 }
 
 // Sets up on a table, goes through the list of calls so many times, and answers the checksum of all that was answered.
-#[unsafe(no_mangle)]
-pub extern "C" fn quasdrom_calls(table: &[u8], calls: &[u8], times: u64) -> u64 {
+pub fn quasdrom_calls(table: &[u8], calls: &[u8], times: u64) -> u64 {
     let ready = scheduler::set_up(table);
     let mut scheduler = ready.scheduler;
     let mut sum = mixed(0, ready.refusal.number as u64);
