@@ -14,16 +14,15 @@ use Rattle.searches.specs.Indexed.{every}
 use Rattle.searches.proofs.Testing.{impossible}
 use Rattle.searches.proofs.Indexed.{length_every}
 use Rattle.table.specs.declared.Refusal.{Refusal}
+use Rattle.table.specs.declared.Why.TheVariants.{Order, TooMany, Room}
 use Rattle.table.specs.declared.Task.{Task}
 use Rattle.table.specs.declared.Use.{Use}
-use Rattle.table.specs.declared.Reading.{Reading}
-use Rattle.table.specs.declared.Reading.TheVariants.{Accepted, Refused}
 use Rattle.table.specs.Fields.{use_at, no_task, no_use}
-use Rattle.table.specs.Reading.{read_table}
+use Rattle.std.specs.Prelude.{Result, Ok, Err}
+use Rattle.table.specs.Replies.{why_number}
+use Rattle.table.specs.Reading.{Reading, refusal, read_table}
 use Rattle.table.proofs.Laid.{Laid, RefusedBy, numbers, crowded, overused}
 use Rattle.held.specs.declared.Table.{Table}
-use Rattle.held.specs.declared.Writing.{Writing}
-use Rattle.held.specs.declared.Writing.TheVariants as answers
 use Rattle.held.specs.Writing.{task_bytes, use_bytes, all, encode, decided, write_table}
 use Rattle.held.proofs.Joined.{all_append}
 use Rattle.held.proofs.Laying.{laid_out, laid_out_lem, use_priority}
@@ -78,9 +77,9 @@ module _ (t : Table) where
 -- ---- the writer's refusals
 
 -- an answer is a refusal, of which P holds
-pub record Refuses (w : Writing) (P : Refusal → Type 0) : Type 0 where
+pub record Refuses (w : Result ℕ Refusal) (P : Refusal → Type 0) : Type 0 where
   pub refused : Refusal
-  pub same : w ≡ answers.Refused refused
+  pub same : w ≡ Err refused
   pub holds : P refused
 
 -- a table whose bytes are refused is refused
@@ -89,29 +88,29 @@ unfolding decided
 as_read t room P r = record { refused = r.refused; same = ap (λ (x : Reading). decided x (length (encode t)) room) r.same; holds = r.holds }
 
 -- 3 to 6, or 10 at 0
-pub refusals : (t : Table) (room : ℕ) (r : Refusal) → write_table t room ≡ answers.Refused r
-    → ((3 ≤ r.number) × (r.number ≤ 6)) ⊎ (r ≡ record { number = 10; place = 0 })
+pub refusals : (t : Table) (room : ℕ) (r : Refusal) → write_table t room ≡ Err r
+    → ((3 ≤ why_number r.why) × (why_number r.why ≤ 6)) ⊎ (r ≡ record { why = Room; place = 0 })
 unfolding decided
 refusals t room r e = go (read_table (encode t)) refl e
   where
-    ten : (b : Bool) → cond b (answers.Refused (record { number = 10; place = 0 })) (answers.Written (length (encode t))) ≡ answers.Refused r
-        → r ≡ record { number = 10; place = 0 }
+    ten : (b : Bool) → cond b (refusal Room 0) (Ok (length (encode t))) ≡ Err r
+        → r ≡ record { why = Room; place = 0 }
     ten true e = cc
     ten false e = absurd (impossible cc)
 
-    go : (x : Reading) → read_table (encode t) ≡ x → decided x (length (encode t)) room ≡ answers.Refused r
-        → ((3 ≤ r.number) × (r.number ≤ 6)) ⊎ (r ≡ record { number = 10; place = 0 })
-    go (Refused f) q e = inl (numbers (encode t) _ _ r (encode_laid t) (q ∙ ap Refused (let z = e in cc)))
-    go (Accepted h) q e = inr (ten (ltb room (length (encode t))) e)
+    go : (x : Reading) → read_table (encode t) ≡ x → decided x (length (encode t)) room ≡ Err r
+        → ((3 ≤ why_number r.why) × (why_number r.why ≤ 6)) ⊎ (r ≡ record { why = Room; place = 0 })
+    go (Err f) q e = inl (numbers (encode t) _ _ r (encode_laid t) (q ∙ ap Err (let z = e in cc)))
+    go (Ok h) q e = inr (ten (ltb room (length (encode t))) e)
 
 -- a task count above 32: 4 at 640, unless an earlier record is refused
-pub many_tasks : (t : Table) (room : ℕ) → 32 < t.task_count → Refuses (write_table t room) (λ r. (r.place < 640) ⊎ (r ≡ record { number = 4; place = 640 }))
+pub many_tasks : (t : Table) (room : ℕ) → 32 < t.task_count → Refuses (write_table t room) (λ r. (r.place < 640) ⊎ (r ≡ record { why = TooMany; place = 640 }))
 many_tasks t room h =
     as_read t room _ (crowded (encode t) _ _ (encode_laid t) (let l = length_beyond no_task 32 t.tasks t.task_count h in omega arith))
 
 -- a use count above 512: 3 where the 513th would stand, unless an earlier record is refused
 pub many_uses : (t : Table) (room : ℕ) → t.task_count ≤ 32 → 512 < t.use_count
-    → Refuses (write_table t room) (λ r. (r.place < 20 * t.task_count + 4096) ⊎ (r ≡ record { number = 3; place = 20 * t.task_count + 4096 }))
+    → Refuses (write_table t room) (λ r. (r.place < 20 * t.task_count + 4096) ⊎ (r ≡ record { why = Order; place = 20 * t.task_count + 4096 }))
 many_uses t room few h =
     let n = length_within no_task 32 t.tasks t.task_count few in
     let m = length_beyond no_use 512 t.uses t.use_count h in

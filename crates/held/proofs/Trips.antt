@@ -15,16 +15,15 @@ use Rattle.searches.proofs.Indexed.{every_at, filled_at, every_same, every_take}
 use Rattle.table.specs.declared.Shape.{Shape}
 use Rattle.table.specs.declared.Task.{Task}
 use Rattle.table.specs.declared.Use.{Use}
-use Rattle.table.specs.declared.Reading.{Reading}
-use Rattle.table.specs.declared.Reading.TheVariants.{Accepted, Refused}
-use Rattle.table.specs.Reading.{read_table}
+use Rattle.std.specs.Prelude.{Result, Ok, Err}
+use Rattle.table.specs.declared.Refusal.{Refusal}
+use Rattle.table.specs.declared.Why.TheVariants.{Room}
+use Rattle.table.specs.Reading.{Reading, refusal, read_table}
 use Rattle.table.specs.WellFormed.{task_of, use_of}
 use Rattle.table.proofs.Accepted.{well_formed}
 use Rattle.table.proofs.Laid.{counts}
 use Rattle.table.specs.Fields.{no_task, no_use}
 use Rattle.held.specs.declared.Table.{Table}
-use Rattle.held.specs.declared.Writing.{Writing}
-use Rattle.held.specs.declared.Writing.TheVariants as answers
 use Rattle.held.specs.Loading.{filled_by, load_table}
 use Rattle.held.specs.Replies.{count_of}
 use Rattle.held.specs.Writing.{encode, decided, write_table, written}
@@ -42,7 +41,7 @@ filled_entries f none k more =
     every_same (λ (i : ℕ). get_or (every f k 0 ++ replicate more none) i none) f k 0 (λ j h. filled_at f none k more j (omega arith))
 
 -- the bytes of what an accepted table holds are the table's
-bytes_back : (s : List ℕ) → ((i : ℕ) → get_or s i 0 < 256) → (h : Shape) → read_table s ≡ Accepted h → encode (load_table s).table ≡ s
+bytes_back : (s : List ℕ) → ((i : ℕ) → get_or s i 0 < 256) → (h : Shape) → read_table s ≡ Ok h → encode (load_table s).table ≡ s
 bytes_back s bytes h e =
     let w = well_formed s h e in
     let n = h.tasks in
@@ -55,39 +54,39 @@ bytes_back s bytes h e =
     ∙ laid_again s bytes h w
 
 -- with room for them, the writer answers their length and writes just them
-pub bytes_again : (s : List ℕ) → ((i : ℕ) → get_or s i 0 < 256) → (h : Shape) → read_table s ≡ Accepted h → (out : List ℕ) → length s ≤ length out
-    → (write_table (load_table s).table (length out) ≡ answers.Written (length s)) × (written (load_table s).table out ≡ s ++ drop (length s) out)
+pub bytes_again : (s : List ℕ) → ((i : ℕ) → get_or s i 0 < 256) → (h : Shape) → read_table s ≡ Ok h → (out : List ℕ) → length s ≤ length out
+    → (write_table (load_table s).table (length out) ≡ Ok (length s)) × (written (load_table s).table out ≡ s ++ drop (length s) out)
 unfolding decided
 bytes_again s bytes h e out room =
     let same = bytes_back s bytes h e in
-    let answer : write_table (load_table s).table (length out) ≡ answers.Written (length s) = accepted_written same in (
+    let answer : write_table (load_table s).table (length out) ≡ Ok (length s) = accepted_written same in (
       answer,
-      ap (λ (a : Writing). take (count_of a) (encode (load_table s).table) ++ drop (count_of a) out) answer
+      ap (λ (a : Result ℕ Refusal). take (count_of a) (encode (load_table s).table) ++ drop (count_of a) out) answer
           ∙ ap (λ (l : List ℕ). take (length s) l ++ drop (length s) out) same
           ∙ ap (λ (l : List ℕ). l ++ drop (length s) out) (take_all (length s) s (omega arith)),
     )
   where
     -- of an accepted table with room the answer is its length
-    accepted_written : encode (load_table s).table ≡ s → write_table (load_table s).table (length out) ≡ answers.Written (length s)
+    accepted_written : encode (load_table s).table ≡ s → write_table (load_table s).table (length out) ≡ Ok (length s)
     accepted_written same =
         ap (λ (l : List ℕ). decided (read_table l) (length l) (length out)) same
         ∙ ap (λ (r : Reading). decided r (length s) (length out)) e
-        ∙ ap (λ (x : Bool). cond x (answers.Refused (record { number = 10; place = 0 })) (answers.Written (length s))) (le-ltb (length out) (length s) room)
+        ∙ ap (λ (x : Bool). cond x (refusal Room 0) (Ok (length s))) (le-ltb (length out) (length s) room)
 
 -- ---- from a table to bytes and back
 
 -- what an answer that something was written tells of the reading
 record Told (r : Reading) (size room n : ℕ) : Type 0 where
   shape : Shape
-  accepted : r ≡ Accepted shape
+  accepted : r ≡ Ok shape
   all_of : n ≡ size
 
-written_told : (r : Reading) (size room n : ℕ) → decided r size room ≡ answers.Written n → Told r size room n
+written_told : (r : Reading) (size room n : ℕ) → decided r size room ≡ Ok n → Told r size room n
 unfolding decided
-written_told (Refused f) size room n e = absurd (impossible cc)
-written_told (Accepted h) size room n e = record { shape = h; accepted = refl; all_of = go (ltb room size) e }
+written_told (Err f) size room n e = absurd (impossible cc)
+written_told (Ok h) size room n e = record { shape = h; accepted = refl; all_of = go (ltb room size) e }
   where
-    go : (b : Bool) → cond b (answers.Refused (record { number = 10; place = 0 })) (answers.Written size) ≡ answers.Written n → n ≡ size
+    go : (b : Bool) → cond b (refusal Room 0) (Ok size) ≡ Ok n → n ≡ size
     go true e = absurd (impossible cc)
     go false e = cc
 
@@ -106,7 +105,7 @@ entry_listed : {A : Type 0} (none : A) (limit : ℕ) (xs : List A) (count : ℕ)
 entry_listed none limit xs count h j l =
     ap (λ (ys : List _). get_or ys j none) (listed_within none limit xs count h) ∙ every_at (λ (i : ℕ). get_or xs i none) count j none l
 
-module _ (t : Table) (z : Sized t) (h : Shape) (e : read_table (encode t) ≡ Accepted h) where
+module _ (t : Table) (z : Sized t) (h : Shape) (e : read_table (encode t) ≡ Ok h) where
   -- the counts that are read are those of the records that are written
   shape_is : h ≡ record { tasks = length (tasks_listed t); uses_at = 20 * length (tasks_listed t); uses = length (uses_listed t) }
   shape_is = counts (encode t) (length (tasks_listed t)) (length (uses_listed t)) h (encode_laid t) e
@@ -157,13 +156,13 @@ module _ (t : Table) (z : Sized t) (h : Shape) (e : read_table (encode t) ≡ Ac
       )
 
 -- what was written, loaded, is the table with the entries past its counts 0
-pub table_again : (t : Table) → Sized t → (out : List ℕ) (n : ℕ) → write_table t (length out) ≡ answers.Written n
+pub table_again : (t : Table) → Sized t → (out : List ℕ) (n : ℕ) → write_table t (length out) ≡ Ok n
     → (load_table (take n (written t out))).table ≡ trimmed t
 table_again t z out n e =
     let told = written_told (read_table (encode t)) (length (encode t)) (length out) n e in
     let whole : take n (encode t) ≡ encode t = take_all n (encode t) (omega (arith, told.all_of)) in
     let front : take n (written t out) ≡ encode t =
-    ap (λ (a : Writing). take n (take (count_of a) (encode t) ++ drop (count_of a) out)) e
+    ap (λ (a : Result ℕ Refusal). take n (take (count_of a) (encode t) ++ drop (count_of a) out)) e
     ∙ ap (λ (l : List ℕ). take n (l ++ drop n out)) whole
     ∙ take_at (encode t) (drop n out) n (sym told.all_of) in
     ap (λ (l : List ℕ). (load_table l).table) front ∙ table_back t z told.shape told.accepted

@@ -8,29 +8,28 @@ use lib.ListN.{length, take, drop}
 use lib.Seq.{length-take-le, take-take}
 use native.Mathlib.Omega.{arith}
 use borrow.Author.Tests.{ltb-false}
-use Rattle.table.specs.declared.Reading.{Reading}
-use Rattle.table.specs.declared.Reading.TheVariants.{Accepted, Refused}
-use Rattle.table.specs.Reading.{read_table}
+use Rattle.std.specs.Prelude.{Result, Ok, Err}
+use Rattle.table.specs.declared.Refusal.{Refusal}
+use Rattle.table.specs.declared.Why.TheVariants.{Room}
+use Rattle.table.specs.Reading.{Reading, refusal, read_table}
 use Rattle.held.specs.declared.Table.{Table}
-use Rattle.held.specs.declared.Writing.{Writing}
-use Rattle.held.specs.declared.Writing.TheVariants as answers
 use Rattle.held.specs.Replies.{count_of}
 use Rattle.held.specs.Writing.{encode, decided, write_table, written}
 
 -- no more is written than there is, or than there is room for
 pub count_most : (r : Reading) (n room : ℕ) → (count_of (decided r n room) ≤ n) × (count_of (decided r n room) ≤ room)
 unfolding decided
-count_most (Refused f) n room = (omega arith, omega arith)
-count_most (Accepted h) n room = go (ltb room n) refl
+count_most (Err f) n room = (omega arith, omega arith)
+count_most (Ok h) n room = go (ltb room n) refl
   where
     go : (b : Bool) → ltb room n ≡ b
-        → (count_of (cond b (answers.Refused (record { number = 10; place = 0 })) (answers.Written n)) ≤ n)
-        × (count_of (cond b (answers.Refused (record { number = 10; place = 0 })) (answers.Written n)) ≤ room)
+        → (count_of (cond b (refusal Room 0) (Ok n)) ≤ n)
+        × (count_of (cond b (refusal Room 0) (Ok n)) ≤ room)
     go true e = (omega arith, omega arith)
     go false e = (omega arith, ltb-false room n e)
 
 -- the full buffer holds the n bytes of the table at its front; they are read; w is answered for them, and it has written k bytes
-pub record Encoded (t : Table) (full : List ℕ) (n room k : ℕ) (w : Writing) : Type 0 where
+pub record Encoded (t : Table) (full : List ℕ) (n room k : ℕ) (w : Result ℕ Refusal) : Type 0 where
   pub fits : n ≤ length full
   pub same : take n full ≡ encode t
   pub reading : Reading
@@ -38,7 +37,7 @@ pub record Encoded (t : Table) (full : List ℕ) (n room k : ℕ) (w : Writing) 
   pub answer : w ≡ decided reading n room
   pub counted : k ≡ count_of w
 
-module _ {t : Table} {full : List ℕ} {n room k : ℕ} {w : Writing} (g : Encoded t full n room k w) where
+module _ {t : Table} {full : List ℕ} {n room k : ℕ} {w : Result ℕ Refusal} (g : Encoded t full n room k w) where
   -- k bytes are there, and there is room for them
   pub count_within : (k ≤ length full) × (k ≤ n) × (k ≤ room)
   count_within =

@@ -1,12 +1,10 @@
 -- What a held table has of the bytes: a record for each count, and zeros after them; all zeros where the bytes are refused.
-use Rattle.std.specs.Prelude.{ℕ, ◌-◌, List, ◌++◌, replicate}
+use Rattle.std.specs.Prelude.{ℕ, ◌-◌, List, ◌++◌, replicate, Ok, Err}
 use Rattle.searches.specs.Indexed.{every}
 use Rattle.table.specs.declared.Task.{Task}
 use Rattle.table.specs.declared.Use.{Use}
-use Rattle.table.specs.declared.Reading.{Reading}
-use Rattle.table.specs.declared.Reading.TheVariants.{Accepted, Refused}
 use Rattle.table.specs.Fields.{no_task, no_use}
-use Rattle.table.specs.Reading.{read_table}
+use Rattle.table.specs.Reading.{Reading, read_table}
 use Rattle.table.specs.WellFormed.{task_of, use_of}
 use Rattle.held.specs.declared.Table.{Table}
 use Rattle.held.specs.declared.Loaded.{Loaded}
@@ -25,8 +23,8 @@ filled_by s tasks start uses = record { tasks = tasks_of s tasks; task_count = t
 
 -- the table that bytes hold, by what they are read as
 unfoldable pub held_by : Reading → List ℕ → Table
-held_by (Accepted h) s = filled_by s h.tasks h.uses_at h.uses
-held_by (Refused r) s = filled_by s 0 0 0
+held_by (Ok h) s = filled_by s h.tasks h.uses_at h.uses
+held_by (Err r) s = filled_by s 0 0 0
 
 -- what loading answers
 abbrev pub load_table : List ℕ → Loaded

@@ -1,16 +1,7 @@
--- The number, the place and the count of an answer of the writer: number and place are 0 where it wrote, the count is 0 where it refused.
-use Rattle.std.specs.Prelude.{ℕ}
-use Rattle.held.specs.declared.Writing.{Writing}
-use Rattle.held.specs.declared.Writing.TheVariants.{Written, Refused}
+-- How many bytes an answer of the writer has written: none where it refused.
+use Rattle.std.specs.Prelude.{ℕ, Result, Ok, Err}
+use Rattle.table.specs.declared.Refusal.{Refusal}
 
-abbrev pub number_of : Writing → ℕ
-number_of (Written n) = 0
-number_of (Refused refusal) = refusal.number
-
-abbrev pub place_of : Writing → ℕ
-place_of (Written n) = 0
-place_of (Refused refusal) = refusal.place
-
-abbrev pub count_of : Writing → ℕ
-count_of (Written n) = n
-count_of (Refused refusal) = 0
+abbrev pub count_of : Result ℕ Refusal → ℕ
+count_of (Ok n) = n
+count_of (Err refusal) = 0

@@ -1,15 +1,13 @@
 -- The bytes of a held table, and what the writer answers: it checks the table as if it read the written bytes.
-use Rattle.std.specs.Prelude.{ℕ, ◌/◌, ◌%◌, min, List, [], ◌∷◌, ◌++◌, cond, ltb, length, get_or, take, drop}
+use Rattle.std.specs.Prelude.{ℕ, ◌/◌, ◌%◌, min, List, [], ◌∷◌, ◌++◌, cond, ltb, length, get_or, take, drop, Result, Ok, Err}
 use Rattle.searches.specs.Indexed.{every}
 use Rattle.table.specs.declared.Task.{Task}
 use Rattle.table.specs.declared.Use.{Use}
-use Rattle.table.specs.declared.Reading.{Reading}
-use Rattle.table.specs.declared.Reading.TheVariants.{Accepted, Refused}
-use Rattle.table.specs.Reading.{read_table}
+use Rattle.table.specs.declared.Refusal.{Refusal}
+use Rattle.table.specs.declared.Why.TheVariants.{Room}
+use Rattle.table.specs.Reading.{Reading, refusal, read_table}
 use Rattle.table.specs.Fields.{no_task, no_use}
 use Rattle.held.specs.declared.Table.{Table}
-use Rattle.held.specs.declared.Writing.{Writing}
-use Rattle.held.specs.declared.Writing.TheVariants as answers
 use Rattle.held.specs.Replies.{count_of}
 
 -- four bytes, low byte first
@@ -54,13 +52,13 @@ use_part us count = uses_bytes us (min count 512) ++ beyond_by 512 count (use_by
 unfoldable pub encode : Table → List ℕ
 encode t = task_part t.tasks t.task_count ++ (use_part t.uses t.use_count ++ 3 ∷ [])
 
--- by what the bytes are read as: the refusal, 10 where the room is too short, or the length
-unfoldable pub decided : Reading → ℕ → ℕ → Writing
-decided (Refused r) n room = answers.Refused r
-decided (Accepted h) n room = cond (ltb room n) (answers.Refused (record { number = 10; place = 0 })) (answers.Written n)
+-- by what the bytes are read as: the refusal, one for want of room, or the length
+unfoldable pub decided : Reading → ℕ → ℕ → Result ℕ Refusal
+decided (Err r) n room = Err r
+decided (Ok h) n room = cond (ltb room n) (refusal Room 0) (Ok n)
 
 -- what the writer answers
-abbrev pub write_table : Table → ℕ → Writing
+abbrev pub write_table : Table → ℕ → Result ℕ Refusal
 write_table t room = decided (read_table (encode t)) (length (encode t)) room
 
 -- the buffer afterwards: the written bytes at its start, the rest as it was; all as it was after a refusal

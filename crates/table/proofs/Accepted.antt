@@ -13,9 +13,9 @@ use Rattle.searches.specs.Indexed.{sum_to}
 use Rattle.searches.proofs.Sums.{sum_to_none, sum_to_more}
 use Rattle.table.specs.declared.Shape.{Shape}
 use Rattle.table.specs.declared.walk.Walk.{Walk}
-use Rattle.table.specs.declared.Reading.TheVariants.{Accepted}
+use Rattle.std.specs.Prelude.{Ok}
 use Rattle.table.specs.Fields.{task_at, use_at, word_at}
-use Rattle.table.specs.Rules.{task_rule, use_rule, place_from, sum_after, with_task, with_use}
+use Rattle.table.specs.Rules.{task_rule, use_rule, place_from, sum_after, with_task, with_use, stands}
 use Rattle.table.specs.Reading.{start_walk, user_at, read_table}
 use Rattle.table.specs.WellFormed.{task_of, use_of, user_of, sections_by, TaskInRange, UseInRange, WellFormed}
 use Rattle.table.proofs.Laws.{place_within, place_has, place_first}
@@ -73,7 +73,7 @@ seen_start s = record {
   sections = λ i h. absurd (omega arith);
 }
 
-pub seen_task : (s : List ℕ) (w : Walk) → Seen s w → get_or s w.at 0 ≡ 1 → w.at + 20 ≤ length s → task_rule w (task_at s w.at) ≡ 0
+pub seen_task : (s : List ℕ) (w : Walk) → Seen s w → get_or s w.at 0 ≡ 1 → w.at + 20 ≤ length s → task_rule w (task_at s w.at) ≡ stands
     → Seen s (with_task w (task_at s w.at))
 seen_task s w g k room e =
     let t = task_at s w.at in
@@ -156,7 +156,7 @@ module _ (s : List ℕ) (w : Walk) (g : Seen s w) (lt : user_at s w < w.tasks) (
       omega arith
 
 pub seen_use : (s : List ℕ) (w : Walk) → Seen s w → get_or s w.at 0 ≡ 2 → w.at + 8 ≤ length s
-    → use_rule w (use_at s w.at) (user_at s w) (word_at s (20 * user_at s w + 4)) ≡ 0 → Seen s (with_use w (use_at s w.at) (user_at s w))
+    → use_rule w (use_at s w.at) (user_at s w) (word_at s (20 * user_at s w + 4)) ≡ stands → Seen s (with_use w (use_at s w.at) (user_at s w))
 seen_use s w g k room e =
     let u = use_at s w.at in
     let i = user_at s w in
@@ -211,7 +211,7 @@ seen_use s w g k room e =
 
 -- ---- the table
 
-pub well_formed : (s : List ℕ) (h : Shape) → read_table s ≡ Accepted h → WellFormed s h
+pub well_formed : (s : List ℕ) (h : Shape) → read_table s ≡ Ok h → WellFormed s h
 well_formed s h e =
     let r = accepted s (Seen s) (seen_task s) (seen_use s) (seen_start s) h e in
     let g = r.kept in

@@ -12,13 +12,15 @@ use Rattle.searches.proofs.Sums.{sum_to_grows}
 use Rattle.table.specs.declared.Shape.{Shape}
 use Rattle.table.specs.declared.Task.{Task}
 use Rattle.table.specs.declared.Use.{Use}
-use Rattle.table.specs.declared.Reading.TheVariants.{Accepted}
+use Rattle.std.specs.Prelude.{Result, Ok, Err}
 use Rattle.table.specs.declared.walk.Walk.{Walk}
-use Rattle.table.specs.declared.walk.Turn.{Turn}
-use Rattle.table.specs.declared.walk.Turn.TheVariants.{Next, Last}
+use Rattle.table.specs.declared.Refusal.{Refusal}
+use Rattle.table.specs.declared.Why.TheVariants.{Range}
+use Rattle.table.specs.declared.walk.Step.{Step}
+use Rattle.table.specs.declared.walk.Step.TheVariants.{On, Done}
 use Rattle.table.specs.Fields.{task_at, use_at, word_at}
 use Rattle.table.specs.Ranges.{task_fits, use_fits}
-use Rattle.table.specs.Rules.{task_rule, use_rule, sum_after, with_task, with_use}
+use Rattle.table.specs.Rules.{task_rule, use_rule, sum_after, with_task, with_use, stands}
 use Rattle.table.specs.Reading.{start_walk, end_step, step_at, user_at, onward, read_from, read_table}
 use Rattle.table.specs.WellFormed.{task_of, use_of, user_of, sections_by, TaskInRange, UseInRange, WellFormed}
 use Rattle.table.proofs.Laws.{place_has, place_first}
@@ -59,19 +61,19 @@ use_fits_lem u r =
       le-leb u.length 1000000 r.length_most,
     )
 
--- the rule says 0 of a task that may stand where it does
-task_passes : (w : Walk) (t : Task) → TaskStands w t → task_rule w t ≡ 0
+-- the rule passes a task that may stand where it does
+task_passes : (w : Walk) (t : Task) → TaskStands w t → task_rule w t ≡ stands
 unfolding task_rule
 task_passes w t st =
     rw (lt-leb 32 w.tasks st.few, lt-leb 1 w.uses (omega (arith, st.first)), lt-leb w.last t.priority st.below)
-    (ap (λ (b : Bool). cond b 0 5) (task_fits_lem t st.range))
+    (ap (λ (b : Bool). cond b stands (Err Range)) (task_fits_lem t st.range))
 
 -- and of such a use
-use_passes : (w : Walk) (u : Use) (i c : ℕ) → UseStands w u i c → use_rule w u i c ≡ 0
+use_passes : (w : Walk) (u : Use) (i c : ℕ) → UseStands w u i c → use_rule w u i c ≡ stands
 unfolding use_rule
 use_passes w u i c st =
     rw (lt-leb w.tasks i st.owned, again (ℕ_discrete i w.user), le-ltb c (sum_after w u i) st.sum)
-    (ap (λ (b : Bool). cond b 0 5) (use_fits_lem u st.range))
+    (ap (λ (b : Bool). cond b stands (Err Range)) (use_fits_lem u st.range))
   where
     -- after a use of the same task, the resource rises
     again : Dec (i ≡ w.user) → eqb i w.user && ltb u.resource w.least ≡ false
@@ -82,17 +84,17 @@ use_passes w u i c st =
 
 module _ (s : List ℕ) (w : Walk) where
   -- over a task
-  task_step_lem : get_or s w.at 0 ≡ 1 → w.at + 20 ≤ length s → task_rule w (task_at s w.at) ≡ 0 → step_at s w ≡ Next (with_task w (task_at s w.at))
+  task_step_lem : get_or s w.at 0 ≡ 1 → w.at + 20 ≤ length s → task_rule w (task_at s w.at) ≡ stands → step_at s w ≡ Ok (On (with_task w (task_at s w.at)))
   task_step_lem k room e = task_turn s w k room ∙ rw e
 
   -- over a use
-  use_step_lem : get_or s w.at 0 ≡ 2 → w.at + 8 ≤ length s → use_rule w (use_at s w.at) (user_at s w) (word_at s (20 * user_at s w + 4)) ≡ 0
-      → step_at s w ≡ Next (with_use w (use_at s w.at) (user_at s w))
+  use_step_lem : get_or s w.at 0 ≡ 2 → w.at + 8 ≤ length s → use_rule w (use_at s w.at) (user_at s w) (word_at s (20 * user_at s w + 4)) ≡ stands
+      → step_at s w ≡ Ok (On (with_use w (use_at s w.at) (user_at s w)))
   use_step_lem k room e = use_turn_lem s w k room ∙ rw e
 
   -- at the end record
   pub end_step_lem : get_or s w.at 0 ≡ 3 → length s ≡ w.at + 1 → 1 ≤ w.tasks
-      → step_at s w ≡ Last (Accepted (record { tasks = w.tasks; uses_at = 20 * w.tasks; uses = w.uses }))
+      → step_at s w ≡ Ok (Done (record { tasks = w.tasks; uses_at = 20 * w.tasks; uses = w.uses }))
   unfolding step_at end_step
   end_step_lem k room some =
       rw (lt-leb (length s) w.at (omega arith), k, ne_eqb w.tasks 0 (λ z. omega arith), le-ltb 1 (length s - w.at) (omega arith))
@@ -112,7 +114,7 @@ record Ahead (s : List ℕ) (h : Shape) (w : Walk) : Type 0 where
 -- one record further on, such a walk again
 record Further (s : List ℕ) (h : Shape) (w : Walk) : Type 0 where
   next : Walk
-  step : step_at s w ≡ Next next
+  step : step_at s w ≡ Ok (On next)
   ahead : Ahead s h next
   on : w.at < next.at
 
@@ -137,7 +139,7 @@ over_task s h w f g l =
     let kind : get_or s w.at 0 ≡ 1 = ap (λ (a : ℕ). get_or s a 0) (sym here) ∙ f.task_kind w.tasks l in
     let room : w.at + 20 ≤ length s = omega (arith, f.whole, f.start) in
     let same : t.priority ≡ (task_of s w.tasks).priority = ap (λ (x : ℕ). (task_at s x).priority) (sym here) in
-    let e : task_rule w t ≡ 0 = task_passes w t (record {
+    let e : task_rule w t ≡ stands = task_passes w t (record {
       few = omega (arith, f.tasks_most);
       first = none;
       below = omega (arith, g.falls l);
@@ -224,19 +226,19 @@ shape_past s h w f e = rw (e, ← f.start)
 
 module _ (s : List ℕ) (h : Shape) (f : WellFormed s h) where
   -- from each walk that stands before a record of the table, the rest of it is read to the end
-  read_on : (k : ℕ) (w : Walk) → Ahead s h w → length s < w.at + k → read_from k s w ≡ Accepted h
+  read_on : (k : ℕ) (w : Walk) → Ahead s h w → length s < w.at + k → read_from k s w ≡ Ok h
   unfolding read_from
   read_on zero w g enough = absurd (omega (arith, g.tasks_left, g.uses_left, g.seen.place, f.whole, f.start))
   read_on (suc k) w g enough = go (dec_lt w.tasks h.tasks) (dec_lt w.uses h.uses) (read_on k)
     where
       -- one record taken, and the rest read from there
-      goes_on : ((n : Walk) → Ahead s h n → length s < n.at + k → read_from k s n ≡ Accepted h) → Further s h w → read_from (suc k) s w ≡ Accepted h
+      goes_on : ((n : Walk) → Ahead s h n → length s < n.at + k → read_from k s n ≡ Ok h) → Further s h w → read_from (suc k) s w ≡ Ok h
       goes_on more r =
-          ap (λ (t : Turn). onward t (read_from k s)) r.step ∙ more r.next r.ahead (omega (arith, r.on))
+          ap (λ (t : Result Step Refusal). onward t (read_from k s)) r.step ∙ more r.next r.ahead (omega (arith, r.on))
 
       -- a task is next, or a use, or the end record
       go : Dec (w.tasks < h.tasks) → Dec (w.uses < h.uses)
-          → ((n : Walk) → Ahead s h n → length s < n.at + k → read_from k s n ≡ Accepted h) → read_from (suc k) s w ≡ Accepted h
+          → ((n : Walk) → Ahead s h n → length s < n.at + k → read_from k s n ≡ Ok h) → read_from (suc k) s w ≡ Ok h
       go (yes l) b more = goes_on more (over_task s h w f g l)
       go (no n) (yes l) more =
           let e = shape_past s h w f (omega (arith, g.tasks_left)) in
@@ -246,9 +248,9 @@ module _ (s : List ℕ) (h : Shape) (f : WellFormed s h) where
           let here : h.uses_at + 8 * h.uses ≡ w.at = omega (arith, g.tasks_left, g.uses_left, g.seen.place, f.start) in
           let kind : get_or s w.at 0 ≡ 3 = ap (λ (a : ℕ). get_or s a 0) (sym here) ∙ f.end_kind in
           let done : w.uses ≡ h.uses = omega (arith, g.uses_left) in
-          ap (λ (t : Turn). onward t (read_from k s)) (end_step_lem s w kind (omega (arith, f.whole)) (omega (arith, f.some, g.tasks_left)))
-          ∙ ap Accepted (ap (past_tasks w) done ∙ sym e)
+          ap (λ (t : Result Step Refusal). onward t (read_from k s)) (end_step_lem s w kind (omega (arith, f.whole)) (omega (arith, f.some, g.tasks_left)))
+          ∙ ap Ok (ap (past_tasks w) done ∙ sym e)
 
 -- a well-formed table is accepted, with its shape
-pub complete : (s : List ℕ) (h : Shape) → WellFormed s h → read_table s ≡ Accepted h
+pub complete : (s : List ℕ) (h : Shape) → WellFormed s h → read_table s ≡ Ok h
 complete s h f = read_on s h f (length s + 1) start_walk (ahead_start s h f) (omega arith)

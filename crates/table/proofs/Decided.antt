@@ -7,13 +7,17 @@ use lib.Seq.{take_all}
 use native.Mathlib.Omega.{arith}
 use native.Mathlib.Decide.{dec_lt}
 use borrow.Author.Tests.{le-ltb, lt-ltb, lt-leb}
+use Rattle.std.specs.Prelude.{Option, Some, None, Result, Ok, Err}
 use Rattle.table.specs.declared.Use.{Use}
 use Rattle.table.specs.declared.walk.Walk.{Walk}
-use Rattle.table.specs.declared.walk.Turn.{Turn}
-use Rattle.table.specs.declared.walk.Turn.TheVariants.{Next, Last}
+use Rattle.table.specs.declared.Refusal.{Refusal}
+use Rattle.table.specs.declared.walk.Step.{Step}
+use Rattle.table.specs.declared.walk.Step.TheVariants.{On, Done}
+use Rattle.table.specs.declared.walk.Kind.{Kind}
+use Rattle.table.specs.declared.walk.Kind.TheVariants as kinds
 use Rattle.table.specs.Fields.{word_at, task_at, use_at}
 use Rattle.table.specs.Rules.{task_rule, use_rule, with_task, with_use, place_from}
-use Rattle.table.specs.Reading.{start_walk, ruled, task_step, use_step, end_step, step_at, user_at, onward, read_from, read_table}
+use Rattle.table.specs.Reading.{start_walk, ruled, task_step, use_step, end_step, kind_of, going, ending, step_of, step_at, user_at, onward, read_from, read_table}
 use Rattle.table.proofs.Laws.{place_within}
 use Rattle.table.proofs.Agreeing.{word_same, task_same, use_same, place_same}
 use Rattle.table.proofs.Walked.{step_on, step_kept}
@@ -27,7 +31,7 @@ module _ (s : List ℕ) where
   seen_most w g = omega (arith, g.place, g.tasks_most, g.uses_most, g.user_most, g.least_most)
 
   -- and on from there
-  seen_next : (w n : Walk) → Seen s w → step_at s w ≡ Next n → Seen s n
+  seen_next : (w n : Walk) → Seen s w → step_at s w ≡ Ok (On n) → Seen s n
   seen_next w n g e = step_kept s (Seen s) (seen_task s) (seen_use s) w g n e
 
   -- so records enough to pass it are enough
@@ -37,11 +41,12 @@ module _ (s : List ℕ) where
   fuel_same (suc k) zero w g h i = absurd (omega (arith, seen_most w g))
   fuel_same (suc k) (suc j) w g h i = go (step_at s w) refl (λ n q l. fuel_same k j n q l)
     where
-      go : (t : Turn) → step_at s w ≡ t
+      go : (t : Result Step Refusal) → step_at s w ≡ t
           → ((n : Walk) → Seen s n → 4736 < n.at + k → 4736 < n.at + j → read_from k s n ≡ read_from j s n)
           → onward t (read_from k s) ≡ onward t (read_from j s)
-      go (Next n) e more = let on = step_on s w n e in more n (seen_next w n g e) (omega arith) (omega arith)
-      go (Last a) e more = refl
+      go (Ok (On n)) e more = let on = step_on s w n e in more n (seen_next w n g e) (omega arith) (omega arith)
+      go (Ok (Done a)) e more = refl
+      go (Err a) e more = refl
 
 -- ---- two inputs with one front
 
@@ -52,7 +57,7 @@ module _ (s r : List ℕ) (same : (i : ℕ) → i < 5000 → get_or r i 0 ≡ ge
     near = seen_most s w g
 
     -- what a use of the task at place i, whose run time is c, leads to
-    abbrev use_turn : Use → ℕ → ℕ → Turn
+    abbrev use_turn : Use → ℕ → ℕ → Result Walk Refusal
     use_turn u i c = ruled (use_rule w u i c) w.at (with_use w u i)
 
     user_same : user_at r w ≡ user_at s w
@@ -92,27 +97,28 @@ module _ (s r : List ℕ) (same : (i : ℕ) → i < 5000 → get_or r i 0 ≡ ge
     unfolding end_step
     end_step_lem = rw (lt-ltb 1 (length r - w.at) (omega (arith, near)), lt-ltb 1 (length s - w.at) (omega (arith, near)))
 
+    of_same : (k : Option Kind) → step_of k r w ≡ step_of k s w
+    of_same (Some kinds.Task) = ap going task_step_lem
+    of_same (Some kinds.Use) = ap going use_step_lem
+    of_same (Some kinds.End) = ap ending end_step_lem
+    of_same None = refl
+
     step_same : step_at r w ≡ step_at s w
     unfolding step_at
     step_same =
-        rw (
-          lt-leb (length r) w.at (omega (arith, near)),
-          lt-leb (length s) w.at (omega (arith, near)),
-          same w.at (omega (arith, near)),
-          task_step_lem,
-          use_step_lem,
-          end_step_lem,
-        )
+        rw (lt-leb (length r) w.at (omega (arith, near)), lt-leb (length s) w.at (omega (arith, near)), same w.at (omega (arith, near)))
+        (of_same (kind_of (get_or s w.at 0)))
 
   read_same : (k : ℕ) (w : Walk) → Seen s w → read_from k r w ≡ read_from k s w
   unfolding read_from
   read_same zero w g = refl
   read_same (suc k) w g = ap (λ t. onward t (read_from k r)) (step_same w g) ∙ go (step_at s w) refl (read_same k)
     where
-      go : (t : Turn) → step_at s w ≡ t → ((n : Walk) → Seen s n → read_from k r n ≡ read_from k s n)
+      go : (t : Result Step Refusal) → step_at s w ≡ t → ((n : Walk) → Seen s n → read_from k r n ≡ read_from k s n)
           → onward t (read_from k r) ≡ onward t (read_from k s)
-      go (Next n) e more = more n (seen_next s w n g e)
-      go (Last a) e more = refl
+      go (Ok (On n)) e more = more n (seen_next s w n g e)
+      go (Ok (Done a)) e more = refl
+      go (Err a) e more = refl
 
 -- ---- the front of an input
 

@@ -1,6 +1,6 @@
 -- Laws of the definitions that the functions' proofs cite.
 use Prim.Native.Nat.{ℕ, zero, suc, ◌+◌, ◌*◌, ◌^◌, ◌-◌, ◌≤◌, ◌<◌}
-use mathlib.Core.Path.{◌≡◌, refl, sym, ap, subst, ◌∙◌}
+use mathlib.Core.Path.{◌≡◌, refl, ap, ◌∙◌}
 use mathlib.Core.Bool.{Bool, true, false, cond}
 use mathlib.Core.List.{List}
 use lib.Dec.{eqb}
@@ -9,14 +9,8 @@ use native.Mathlib.Omega.{arith}
 use native.Mathlib.Nat.{mul-le-mul}
 use native.Mathlib.Decide.{ℕ_discrete}
 use borrow.Author.Tests.{eq-eqb, ne_eqb, eqb-true}
-use Rattle.table.specs.declared.Reading.{Reading}
-use Rattle.table.specs.declared.walk.Walk.{Walk}
-use Rattle.table.specs.declared.walk.Turn.{Turn}
-use Rattle.table.specs.declared.walk.Turn.TheVariants.{Next, Last}
 use Rattle.table.specs.Fields.{word_at, no_task, no_use, task_at, use_at}
 use Rattle.table.specs.Rules.{place_from}
-use Rattle.table.specs.Reading.{start_walk, refusal, ruled, onward, step_at, read_from, read_table}
-use Rattle.table.specs.Sound.{Sound, Stepped, sound_next}
 
 -- ---- past the end all bytes read as 0
 module _ (s : List ℕ) (i : ℕ) (past : length s ≤ i) where
@@ -104,57 +98,3 @@ place_first (suc k) s i p m a b e f = go (ℕ_discrete i m) (λ l r. place_first
     go : Dec (i ≡ m) → (i + 1 ≤ m → m < i + 1 + k → place_from k s (i + 1) p ≡ m) → cond (eqb (get_or s (20 * i + 1) 0) p) i (place_from k s (i + 1) p) ≡ m
     go (yes q) more = rw (eq-eqb (get_or s (20 * i + 1) 0) p (ap (λ (n : ℕ). get_or s (20 * n + 1) 0) q ∙ e)) q
     go (no n) more = rw (ne_eqb (get_or s (20 * i + 1) 0) p (f i (omega arith))) (more (omega arith) (omega arith))
-
--- ---- a step's two outcomes
-pub last_step : (s : List ℕ) (w : Walk) (meant r : Turn) (a : Reading) → r ≡ Last a → meant ≡ Last a → Stepped s w meant r
-last_step s w meant r a e f = record { same = e ∙ sym f; sound = subst (sound_next s w) (sym e) tt }
-
--- a step by a rule: on where it says 0, else its refusal
-pub ruled_step : (s : List ℕ) (w : Walk) (meant r : Turn) (k place : ℕ) (n : Walk) → r ≡ ruled k place n → meant ≡ ruled k place n
-    → (k ≡ 0 → Sound s n × (w.at < n.at)) → Stepped s w meant r
-ruled_step s w meant r k place n e f g = record { same = e ∙ sym f; sound = subst (sound_next s w) (sym e) (go (eqb k 0) refl) }
-  where
-    go : (b : Bool) → eqb k 0 ≡ b → sound_next s w (cond b (Next n) (refusal k place))
-    go true q = g (eqb-true k 0 q)
-    go false q = tt
-
--- ---- the loop over the records: what is left to read from here is what the whole table is
-pub record Going (s : List ℕ) (w : Walk) : Type 0 where
-  pub sound : Sound s w
-  pub fuel : ℕ
-  pub enough : length s < w.at + fuel
-  pub same : read_from fuel s w ≡ read_table s
-
-pub go_start : (s : List ℕ) → Going s start_walk
-go_start s = record {
-  sound = record { within = omega arith; behind = omega arith; user = omega arith; small = omega arith };
-  fuel = length s + 1;
-  enough = omega arith;
-  same = refl;
-}
-
--- one turn of the definition: the fuel is not used up, since the place is within the bytes
-go_from : (k : ℕ) (s : List ℕ) (w n : Walk) → length s < w.at + k → w.at ≤ length s → read_from k s w ≡ read_table s
-    → step_at s w ≡ Next n → Sound s n → w.at < n.at → Going s n
-unfolding read_from
-go_from zero s w n e h same st g l = absurd (omega arith)
-go_from (suc k) s w n e h same st g l =
-    record { sound = g; fuel = k; enough = omega arith; same = ap (λ (t : Turn). onward t (read_from k s)) (sym st) ∙ same }
-
-end_from : (k : ℕ) (s : List ℕ) (w : Walk) (a : Reading) → length s < w.at + k → w.at ≤ length s → read_from k s w ≡ read_table s
-    → step_at s w ≡ Last a → a ≡ read_table s
-unfolding read_from
-end_from zero s w a e h same st = absurd (omega arith)
-end_from (suc k) s w a e h same st = ap (λ (t : Turn). onward t (read_from k s)) (sym st) ∙ same
-
-module _ (s : List ℕ) (w : Walk) (r : Turn) (g : Going s w) (st : Stepped s w (step_at s w) r) where
-  pub further : (n : Walk) → r ≡ Next n → Sound s n × (w.at < n.at)
-  further n e = subst (sound_next s w) e st.sound
-
-  pub go_on : (n : Walk) → r ≡ Next n → Going s n
-  go_on n e =
-      let f = further n e in
-      go_from g.fuel s w n g.enough g.sound.within g.same (sym st.same ∙ e) f.0 f.1
-
-  pub go_last : (a : Reading) → r ≡ Last a → a ≡ read_table s
-  go_last a e = end_from g.fuel s w a g.enough g.sound.within g.same (sym st.same ∙ e)

@@ -14,7 +14,7 @@ use Rattle.searches.proofs.Sums.{sum_to_none, sum_to_same, sum_to_grows}
 use Rattle.table.specs.declared.Shape.{Shape}
 use Rattle.table.specs.declared.Task.{Task}
 use Rattle.table.specs.declared.Use.{Use}
-use Rattle.table.specs.declared.Reading.TheVariants.{Accepted}
+use Rattle.std.specs.Prelude.{Ok}
 use Rattle.table.specs.Rules.{place_from}
 use Rattle.table.specs.Reading.{read_table}
 use Rattle.table.specs.WellFormed.{task_of, use_of, user_of, sections_by, TaskInRange, UseInRange, WellFormed}
@@ -117,8 +117,8 @@ shape_counted : (s : List ℕ) (h : Shape) → WellFormed s h → h ≡ counted 
 shape_counted s h f = rw (← f.start)
 
 -- the first records of an accepted table, with an end, are accepted: its first tasks, or all its tasks and its first uses
-pub prefix_accepted : (s : List ℕ) (h : Shape) → read_table s ≡ Accepted h → (k j : ℕ) → 1 ≤ k → k ≤ h.tasks → j ≤ h.uses → (j ≡ 0) ⊎ (k ≡ h.tasks)
-    → read_table (take (20 * k + 8 * j) s ++ 3 ∷ []) ≡ Accepted (record { tasks = k; uses_at = 20 * k; uses = j })
+pub prefix_accepted : (s : List ℕ) (h : Shape) → read_table s ≡ Ok h → (k j : ℕ) → 1 ≤ k → k ≤ h.tasks → j ≤ h.uses → (j ≡ 0) ⊎ (k ≡ h.tasks)
+    → read_table (take (20 * k + 8 * j) s ++ 3 ∷ []) ≡ Ok (record { tasks = k; uses_at = 20 * k; uses = j })
 prefix_accepted s h e k j some few fewer full =
     let f = well_formed s h e in
     let g = subst (WellFormed s) (shape_counted s h f) f in

@@ -1,4 +1,4 @@
--- What a rule that says 0 has tested, as facts about the record.
+-- What a rule that passes has tested, as facts about the record.
 use Prim.Native.Nat.{ℕ, ◌≤◌, ◌<◌}
 use mathlib.Core.Path.{◌≡◌, refl}
 use mathlib.Core.Logic.{◌⊎◌, inl, inr, ⊎_elim}
@@ -7,11 +7,13 @@ use lib.Dec.{ltb, leb, eqb}
 use native.Mathlib.Omega.{arith}
 use borrow.Author.Tests.{ltb-true, ltb-false, leb-true, leb-false, eqb-false}
 use Rattle.searches.proofs.Testing.{impossible, and_true}
+use Rattle.std.specs.Prelude.{Err}
+use Rattle.table.specs.declared.Why.TheVariants.{Order, TooMany, Range, Sections}
 use Rattle.table.specs.declared.Task.{Task}
 use Rattle.table.specs.declared.Use.{Use}
 use Rattle.table.specs.declared.walk.Walk.{Walk}
 use Rattle.table.specs.Ranges.{task_fits, use_fits}
-use Rattle.table.specs.Rules.{task_rule, sum_after, use_rule}
+use Rattle.table.specs.Rules.{task_rule, sum_after, use_rule, stands}
 use Rattle.table.specs.WellFormed.{TaskInRange, UseInRange}
 
 -- neither test passed
@@ -29,16 +31,17 @@ not_both : (p q : Bool) → p && q ≡ false → (p ≡ false) ⊎ (q ≡ false)
 not_both true q e = inr e
 not_both false q e = inl refl
 
-task_told : (p q r : Bool) → ◌≡◌ {A = ℕ} (cond p 4 (cond q 3 (cond r 0 5))) 0 → (p ≡ false) × (q ≡ false) × (r ≡ true)
-task_told true q r e = absurd (let z : ◌≡◌ {A = ℕ} 4 0 = e in omega arith)
-task_told false true r e = absurd (let z : ◌≡◌ {A = ℕ} 3 0 = e in omega arith)
+-- a rule that passes has not refused
+task_told : (p q r : Bool) → cond p (Err TooMany) (cond q (Err Order) (cond r stands (Err Range))) ≡ stands → (p ≡ false) × (q ≡ false) × (r ≡ true)
+task_told true q r e = absurd (impossible cc)
+task_told false true r e = absurd (impossible cc)
 task_told false false true e = (refl, refl, refl)
-task_told false false false e = absurd (let z : ◌≡◌ {A = ℕ} 5 0 = e in omega arith)
+task_told false false false e = absurd (impossible cc)
 
-use_told : (p q r : Bool) → ◌≡◌ {A = ℕ} (cond p 3 (cond q (cond r 6 0) 5)) 0 → (p ≡ false) × (q ≡ true) × (r ≡ false)
-use_told true q r e = absurd (let z : ◌≡◌ {A = ℕ} 3 0 = e in omega arith)
-use_told false false r e = absurd (let z : ◌≡◌ {A = ℕ} 5 0 = e in omega arith)
-use_told false true true e = absurd (let z : ◌≡◌ {A = ℕ} 6 0 = e in omega arith)
+use_told : (p q r : Bool) → cond p (Err Order) (cond q (cond r (Err Sections) stands) (Err Range)) ≡ stands → (p ≡ false) × (q ≡ true) × (r ≡ false)
+use_told true q r e = absurd (impossible cc)
+use_told false false r e = absurd (impossible cc)
+use_told false true true e = absurd (impossible cc)
 use_told false true false e = (refl, refl, refl)
 
 -- ---- ranges
@@ -88,7 +91,7 @@ pub record TaskStands (w : Walk) (t : Task) : Type 0 where
   pub below : t.priority < w.last
   pub range : TaskInRange t
 
-pub task_stands : (w : Walk) (t : Task) → task_rule w t ≡ 0 → TaskStands w t
+pub task_stands : (w : Walk) (t : Task) → task_rule w t ≡ stands → TaskStands w t
 unfolding task_rule
 task_stands w t e =
     let r = task_told (leb 32 w.tasks) (leb 1 w.uses || leb w.last t.priority) (task_fits t) e in
@@ -107,7 +110,7 @@ pub record UseStands (w : Walk) (u : Use) (i c : ℕ) : Type 0 where
   pub range : UseInRange u
   pub sum : sum_after w u i ≤ c
 
-pub use_stands : (w : Walk) (u : Use) (i c : ℕ) → use_rule w u i c ≡ 0 → UseStands w u i c
+pub use_stands : (w : Walk) (u : Use) (i c : ℕ) → use_rule w u i c ≡ stands → UseStands w u i c
 unfolding use_rule
 use_stands w u i c e =
     let again = eqb i w.user && ltb u.resource w.least in

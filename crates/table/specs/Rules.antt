@@ -1,16 +1,25 @@
 -- What is checked of one record, given the records before it, and in which order; and how the walk goes on past it.
-use Rattle.std.specs.Prelude.{ℕ, zero, suc, ◌+◌, ◌*◌, List, cond, ◌&&◌, ◌||◌, get_or, ltb, leb, eqb}
+use Rattle.std.specs.Prelude.{ℕ, zero, suc, ◌+◌, ◌*◌, List, cond, ◌&&◌, ◌||◌, get_or, ltb, leb, eqb, Result, Ok, Err}
+use Rattle.table.specs.declared.Why.{Why}
+use Rattle.table.specs.declared.Why.TheVariants.{Order, TooMany, Range, Sections}
 use Rattle.table.specs.declared.Task.{Task}
 use Rattle.table.specs.declared.Use.{Use}
 use Rattle.table.specs.declared.walk.Walk.{Walk}
 use Rattle.table.specs.Ranges.{task_fits, use_fits}
 
--- a task: a 33rd is refused with 4; after a use, or with a priority not below the last, with 3; out of range with 5; else 0
-unfoldable pub task_rule : Walk → Task → ℕ
+-- what a rule says of a record: that it may stand where it does, or why not
+abbrev pub Ruling : Type 0
+Ruling = Result (Unit {0}) Why
+
+abbrev pub stands : Ruling
+stands = Ok tt
+
+-- a task: a 33rd is one too many; after a use, or with a priority not below the last, it is out of order; out of range; else it passes
+unfoldable pub task_rule : Walk → Task → Ruling
 task_rule w t =
-    cond (leb 32 w.tasks) 4
-    (cond (leb 1 w.uses || leb w.last t.priority) 3
-    (cond (task_fits t) 0 5))
+    cond (leb 32 w.tasks) (Err TooMany)
+    (cond (leb 1 w.uses || leb w.last t.priority) (Err Order)
+    (cond (task_fits t) stands (Err Range)))
 
 -- past a task
 abbrev pub with_task : Walk → Task → Walk
@@ -34,11 +43,11 @@ unfoldable pub sum_after : Walk → Use → ℕ → ℕ
 sum_after w u i = cond (eqb i w.user) (w.sum + u.times * u.length) (u.times * u.length)
 
 -- a use of the task at place i, whose run time is c: of no task from the last use's on, or with a resource that does not rise, it is
--- refused with 3; out of range with 5; where it takes the task's sections past C with 6; else 0
-unfoldable pub use_rule : Walk → Use → ℕ → ℕ → ℕ
+-- out of order; out of range; it may take the task's sections past C; else it passes
+unfoldable pub use_rule : Walk → Use → ℕ → ℕ → Ruling
 use_rule w u i c =
-    cond (leb w.tasks i || (eqb i w.user && ltb u.resource w.least)) 3
-    (cond (use_fits u) (cond (ltb c (sum_after w u i)) 6 0) 5)
+    cond (leb w.tasks i || (eqb i w.user && ltb u.resource w.least)) (Err Order)
+    (cond (use_fits u) (cond (ltb c (sum_after w u i)) (Err Sections) stands) (Err Range))
 
 -- past a use of the task at place i
 abbrev pub with_use : Walk → Use → ℕ → Walk

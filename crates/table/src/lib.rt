@@ -1,9 +1,9 @@
 // Task tables as bytes: reading one whole, the fields of its records, and a task's record as the caller's own bytes.
 #![tactic(auto)]
 
-ghost use Rattle.std.specs.Prelude.{◌≡◌};
+ghost use Rattle.std.specs.Prelude.{◌≡◌, Some};
 ghost use Rattle.table.specs.Reading.{read_table};
-ghost use Rattle.table.specs.Replies.{number_of, place_of};
+ghost use Rattle.table.specs.Replies.{number_of, place_of, refusal_text, why_number};
 ghost use Rattle.table.specs.Records.{record_of};
 
 mod fields;
@@ -12,6 +12,9 @@ mod walk;
 
 pub use fields::{byte_at, no_task, no_use, task_at, use_at, whole_word, word_at};
 pub use rules::place_of;
+use std::error::Error;
+use std::fmt;
+use walk::Step;
 
 // A task: its priority, system setting, most sleeps X, run time C, sleep S, deadline D and period T.
 #[derive(Clone, Copy)]
@@ -42,54 +45,107 @@ pub struct Shape {
     pub uses: usize,
 }
 
-// A refusal: its number and its place.
-#[derive(Clone, Copy)]
+// Why a table, or a call on it, is refused.
+#[derive(Clone, Copy, PartialEq, Eq, Debug)]
+pub enum Why {
+    // a kind byte or a body that is not all there
+    Cut,
+    // a kind that is unknown
+    Kind,
+    // a record that may not stand where it does
+    Order,
+    // a 33rd task
+    TooMany,
+    // a field outside its range
+    Range,
+    // sections that add up to more than the task's run time
+    Sections,
+    // bytes after the end
+    Beyond,
+    // more evaluations than the analysis is allowed
+    Allowance,
+    // fewer rows than tasks, for the report
+    Rows,
+    // less room than the bytes need, for the writer
+    Room,
+}
+
+impl Why {
+    // The number by which a host knows it.
+    pub fn number(self) -> u8
+        ensures { result ≡ why_number self }
+    {
+        match self {
+            Why::Cut => 1,
+            Why::Kind => 2,
+            Why::Order => 3,
+            Why::TooMany => 4,
+            Why::Range => 5,
+            Why::Sections => 6,
+            Why::Beyond => 7,
+            Why::Allowance => 8,
+            Why::Rows => 9,
+            Why::Room => 10,
+        }
+    }
+
+    // The refusal for this reason at a place.
+    pub fn at(self, place: usize) -> Refusal
+        ensures { result ≡ record { why = self; place = place } }
+    {
+        Refusal { why: self, place }
+    }
+}
+
+// A refusal: why, and at which place.
+#[derive(Clone, Copy, PartialEq, Eq, Debug)]
 pub struct Refusal {
-    pub number: u8,
+    pub why: Why,
     pub place: usize,
 }
 
-// What a table's bytes are read as.
-#[derive(Clone, Copy)]
-pub enum Reading {
-    Accepted(Shape),
-    Refused(Refusal),
+impl fmt::Display for Refusal {
+    ghost output = { λ r. Some (refusal_text r) };
+
+    fn fmt<W: fmt::Write>(&self, f: &mut fmt::Formatter<W>) -> fmt::Result {
+        let number = self.why.number();
+        let place = self.place;
+        write!(f, "refused {number} at {place}")
+    }
 }
 
+impl Error for Refusal {}
+
 // Reads a table: all of the bytes, whatever they are.
-pub fn read(bytes: &[u8]) -> Reading
+pub fn read(bytes: &[u8]) -> Result<Shape, Refusal>
     ensures { result ≡ read_table bytes.now }
 {
     let mut walk = walk::start();
     loop {
-        match walk::step(bytes, walk) {
-            walk::Turn::Next(next) => {
-                walk = next;
-            }
-            walk::Turn::Last(reading) => {
-                return reading;
-            }
+        match walk::advance(bytes, walk)? {
+            Step::On(next) => walk = next,
+            Step::Done(shape) => return Ok(shape),
         }
     }
 }
 
-// The number of a reading's refusal, 0 where the table is accepted.
-pub fn number(reading: Reading) -> u8
-    ensures { result ≡ number_of reading }
+// The number of a refusal, 0 of any other answer.
+pub fn number<T: Drop>(answer: Result<T, Refusal>) -> u8
+    ensures { result ≡ number_of answer }
 {
-    match reading {
-        Reading::Accepted(_) => 0,
-        Reading::Refused(refusal) => refusal.number,
+    match answer {
+        Ok(_) => 0,
+        Err(refusal) => refusal.why.number(),
     }
 }
 
-// The place of a reading's refusal, 0 where the table is accepted.
-pub fn place(reading: Reading) -> usize
-    ensures { result ≡ place_of reading }
+// The place of a refusal, 0 of any other answer.
+pub fn place<T: Drop>(answer: Result<T, Refusal>) -> usize
+    ensures { result ≡ place_of answer }
 {
-    match reading {
-        Reading::Accepted(_) => 0,
-        Reading::Refused(refusal) => refusal.place,
+    match answer {
+        Ok(_) => 0,
+        Err(refusal) => refusal.place,
     }
 }
 
@@ -97,7 +153,7 @@ pub fn place(reading: Reading) -> usize
 pub fn record_of(bytes: &[u8], priority: u8) -> &[u8]
     ensures { result.now ≡ record_of bytes.now priority }
 {
-    let Reading::Accepted(shape) = read(bytes) else {
+    let Ok(shape) = read(bytes) else {
         return &bytes[0..0];
     };
     let tasks = shape.tasks;

@@ -5,7 +5,7 @@ ghost use Rattle.table.specs.Rules.{task_rule, place_from, sum_after, use_rule};
 
 use crate::fields::{byte_at, wide};
 use crate::walk::Walk;
-use crate::{Task, Use};
+use crate::{Task, Use, Why};
 
 // Each field of a task within its range.
 pub fn task_fits(task: Task) -> bool
@@ -33,20 +33,21 @@ pub fn use_fits(usage: Use) -> bool
         & (usage.length <= 1000000)
 }
 
-// 0 where a task may stand here, else the number of its refusal.
-pub fn task_rule(walk: Walk, task: Task) -> u8
+// Whether a task may stand here, else why not.
+#[tactic(auto, unfolding(crate::specs::Rules::task_rule))]
+pub fn task_rule(walk: Walk, task: Task) -> Result<(), Why>
     ensures { result ≡ task_rule walk task }
 {
     if 32 <= walk.tasks {
-        return 4;
+        return Err(Why::TooMany);
     }
-    if 1 <= walk.uses {
-        return 3;
+    if 1 <= walk.uses || walk.last <= wide(task.priority) {
+        return Err(Why::Order);
     }
-    if walk.last <= wide(task.priority) {
-        return 3;
+    if !task_fits(task) {
+        return Err(Why::Range);
     }
-    if task_fits(task) { 0 } else { 5 }
+    Ok(())
 }
 
 // The place of the first task with this priority, from a place on, or the count where there is none.
@@ -77,21 +78,20 @@ pub fn sum_after(walk: Walk, usage: Use, user: usize) -> u64
     }
 }
 
-// 0 where a use of the task at a place, whose run time is given, may stand here, else the number of its refusal.
-pub fn use_rule(walk: Walk, usage: Use, user: usize, run: u32) -> u8
+// Whether a use of the task at a place, whose run time is given, may stand here, else why not.
+#[tactic(auto, unfolding(crate::specs::Rules::use_rule))]
+pub fn use_rule(walk: Walk, usage: Use, user: usize, run: u32) -> Result<(), Why>
     requires { walk.sum < 2 ^ 32 }
     ensures { result ≡ use_rule walk usage user run }
 {
-    if (walk.tasks <= user) | ((user == walk.user) & (wide(usage.resource) < walk.least)) {
-        return 3;
+    if walk.tasks <= user || (user == walk.user && wide(usage.resource) < walk.least) {
+        return Err(Why::Order);
     }
-    if use_fits(usage) {
-        if (run as u64) < sum_after(walk, usage, user) {
-            6
-        } else {
-            0
-        }
-    } else {
-        5
+    if !use_fits(usage) {
+        return Err(Why::Range);
     }
+    if u64::from(run) < sum_after(walk, usage, user) {
+        return Err(Why::Sections);
+    }
+    Ok(())
 }

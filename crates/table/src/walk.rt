@@ -1,12 +1,12 @@
 // The walk over a table's records, one record a step.
 ghost use Rattle.std.specs.Prelude.{◌≡◌, ◌+◌, ◌*◌, ◌^◌, ◌<◌};
 ghost use Rattle.table.specs.Rules.{with_task, with_use};
-ghost use Rattle.table.specs.Reading.{start_walk, refusal, ruled, task_step, use_step, end_step, step_at};
-ghost use Rattle.table.specs.Sound.{Sound, Stepped};
+ghost use Rattle.table.specs.Reading.{start_walk, task_step, use_step, end_step, kind_of, step_at};
+ghost use Rattle.table.specs.Sound.{Sound};
 
 use crate::fields::{task_at, use_at, wide, word_at};
 use crate::rules::{place_of, sum_after, task_rule, use_rule};
-use crate::{Reading, Refusal, Shape, Task, Use};
+use crate::{Refusal, Shape, Task, Use, Why};
 
 // Where the walk stands: the next record's place; the tasks so far and the last one's priority, 256 before the first; the uses so far,
 // the place of the last one's task, the least resource that its next use may name, and what its sections add up to.
@@ -21,11 +21,33 @@ pub struct Walk {
     pub sum: u64,
 }
 
-// One record further, or the end.
+// One record further, or the end of a whole table.
 #[derive(Clone, Copy)]
-pub enum Turn {
-    Next(Walk),
-    Last(Reading),
+pub enum Step {
+    On(Walk),
+    Done(Shape),
+}
+
+// What a record is.
+#[derive(Clone, Copy)]
+enum Kind {
+    Task,
+    Use,
+    End,
+}
+
+impl Kind {
+    // The kind that a byte says, if it says one.
+    fn of(byte: u8) -> Option<Kind>
+        ensures { result ≡ kind_of byte }
+    {
+        match byte {
+            1 => Some(Kind::Task),
+            2 => Some(Kind::Use),
+            3 => Some(Kind::End),
+            0 | 4..=255 => None,
+        }
+    }
 }
 
 // Before the first record.
@@ -40,24 +62,6 @@ pub fn start() -> Walk
         user: 0,
         least: 0,
         sum: 0,
-    }
-}
-
-// The end of the walk by a refusal.
-fn refused(number: u8, place: usize) -> Turn
-    ensures { result ≡ refusal number place }
-{
-    Turn::Last(Reading::Refused(Refusal { number, place }))
-}
-
-// On past a record where its rule says 0, else its refusal at the record's place.
-fn ruled(number: u8, place: usize, next: Walk) -> Turn
-    ensures { result ≡ ruled number place next }
-{
-    if number == 0 {
-        Turn::Next(next)
-    } else {
-        refused(number, place)
     }
 }
 
@@ -94,69 +98,72 @@ fn with_use(walk: Walk, usage: Use, user: usize) -> Walk
 }
 
 // A task record: 19 bytes of body.
-fn task_step(bytes: &[u8], walk: Walk) -> Turn
+#[tactic(auto, unfolding(crate::specs::Reading::task_step))]
+fn task_step(bytes: &[u8], walk: Walk) -> Result<Walk, Refusal>
     requires { Sound bytes.now walk }
-    ensures { Stepped bytes.now walk (task_step bytes.now walk) result }
+    ensures { result ≡ task_step bytes.now walk }
 {
     let at = walk.at;
     if bytes.len() - at < 20 {
-        return refused(1, at);
+        return Err(Why::Cut.at(at));
     }
     let task = task_at(bytes, at);
-    let number = task_rule(walk, task);
-    ruled(number, at, with_task(walk, task))
+    task_rule(walk, task).map_err(|why| why.at(at))?;
+    Ok(with_task(walk, task))
 }
 
 // A use record: 7 bytes of body.
-fn use_step(bytes: &[u8], walk: Walk) -> Turn
+#[tactic(auto, using(crate::proofs::Laws::place_most), unfolding(crate::specs::Reading::use_step))]
+fn use_step(bytes: &[u8], walk: Walk) -> Result<Walk, Refusal>
     requires { Sound bytes.now walk }
-    ensures { Stepped bytes.now walk (use_step bytes.now walk) result }
+    ensures { result ≡ use_step bytes.now walk }
 {
     let at = walk.at;
     if bytes.len() - at < 8 {
-        return refused(1, at);
+        return Err(Why::Cut.at(at));
     }
     let usage = use_at(bytes, at);
     let user = place_of(bytes, walk.tasks, walk.user, usage.priority);
     let run = word_at(bytes, 20 * user + 4);
-    let number = use_rule(walk, usage, user, run);
-    ruled(number, at, with_use(walk, usage, user))
+    use_rule(walk, usage, user, run).map_err(|why| why.at(at))?;
+    Ok(with_use(walk, usage, user))
 }
 
 // The end record, which has no body and nothing after it.
-fn end_step(bytes: &[u8], walk: Walk) -> Turn
+#[tactic(auto, unfolding(crate::specs::Reading::end_step))]
+fn end_step(bytes: &[u8], walk: Walk) -> Result<Shape, Refusal>
     requires { Sound bytes.now walk }
-    ensures { Stepped bytes.now walk (end_step bytes.now walk) result }
+    ensures { result ≡ end_step bytes.now walk }
 {
     let at = walk.at;
     let tasks = walk.tasks;
     if tasks == 0 {
-        return refused(3, at);
+        return Err(Why::Order.at(at));
     }
     if 1 < bytes.len() - at {
-        return refused(7, at + 1);
+        return Err(Why::Beyond.at(at + 1));
     }
-    Turn::Last(Reading::Accepted(Shape {
+    Ok(Shape {
         tasks,
         uses_at: 20 * tasks,
         uses: walk.uses,
-    }))
+    })
 }
 
 // The record at the walk's place, by its kind.
-pub fn step(bytes: &[u8], walk: Walk) -> Turn
+#[tactic(auto, unfolding(crate::specs::Reading::step_at))]
+pub fn advance(bytes: &[u8], walk: Walk) -> Result<Step, Refusal>
     requires { Sound bytes.now walk }
-    ensures { Stepped bytes.now walk (step_at bytes.now walk) result }
+    ensures { result ≡ step_at bytes.now walk }
 {
     let at = walk.at;
     if bytes.len() <= at {
-        return refused(1, at);
+        return Err(Why::Cut.at(at));
     }
-    let kind = bytes[at];
-    match kind {
-        1 => task_step(bytes, walk),
-        2 => use_step(bytes, walk),
-        3 => end_step(bytes, walk),
-        0 | 4..=255 => refused(2, at),
+    match Kind::of(bytes[at]) {
+        Some(Kind::Task) => Ok(Step::On(task_step(bytes, walk)?)),
+        Some(Kind::Use) => Ok(Step::On(use_step(bytes, walk)?)),
+        Some(Kind::End) => Ok(Step::Done(end_step(bytes, walk)?)),
+        None => Err(Why::Kind.at(at)),
     }
 }

@@ -11,13 +11,13 @@ use Rattle.held.proofs.write.Goals.{After-count-n}
 known : (c : After-count-n)
     → Encoded c.args.table c.encode-length.new.buffer
     c.encode-length.result (length c.args.out.now) c.count-n.result
-    c.decide-writing.result
+    c.decide-answer.result
 known c = record {
   fits = omega (arith, c.encode-length.auto.buffer, c.encode-length.ensures.0);
   same = c.encode-length.ensures.1;
   reading = c.read.result;
   reads = c.read.ensures;
-  answer = c.decide-writing.ensures;
+  answer = c.decide-answer.ensures;
   counted = c.count-n.ensures;
 }
 

@@ -1,7 +1,7 @@
 -- The loops of `table::read`.
 use Prim.Native.Nat.{◌-◌}
 use lib.ListN.{length}
-use Rattle.table.proofs.Laws.{Going}
+use Rattle.table.proofs.Going.{Going}
 use Rattle.table.proofs.read.Given as goal
 
 abbrev pub invariant-loop-next : goal.invariant-loop-next
