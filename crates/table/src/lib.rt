@@ -6,10 +6,12 @@ ghost use Rattle.table.specs.Reading.{read_table};
 ghost use Rattle.table.specs.Replies.{number_of, place_of, refusal_text, why_number};
 ghost use Rattle.table.specs.Records.{record_of};
 
+mod accepted_table;
 mod fields;
 mod rules;
 mod walk;
 
+pub use accepted_table::Table;
 pub use fields::{byte_at, no_task, no_use, task_at, use_at, whole_word, word_at};
 pub use rules::place_of;
 use std::error::Error;
