@@ -5,6 +5,7 @@ use lib.ListN.{get_or}
 use native.Mathlib.Omega.{arith}
 use Rattle.table.specs.declared.Shape.{Shape}
 use Rattle.table.specs.Fields.{word_at}
+use Rattle.table.specs.WellFormed.{WellFormed}
 use Rattle.equations.specs.declared.At.{At}
 use Rattle.equations.specs.Ready.{Ready}
 
@@ -17,10 +18,10 @@ pub record Higher (s v : List ℕ) (j : ℕ) : Type 0 where
   pub value : get_or v j 0 ≤ 1000000
   pub floor : word_at s (20 * j + 4) ≤ get_or v j 0
 
-pub higher : (s : List ℕ) (h : Shape) (v : List ℕ) (at : At) → Ready s h v at → (j : ℕ) → j < at.task → Higher s v j
-higher s h v at g j l =
+pub higher : (s : List ℕ) (h : Shape) (v : List ℕ) (at : At) → WellFormed s h → Ready s h v at → (j : ℕ) → j < at.task → Higher s v j
+higher s h v at w g j l =
     let here : j < h.tasks = omega (arith, g.task) in
-    let r = g.well.task_range j here in
+    let r = w.task_range j here in
     let run = r.run in
     let within = r.run_within in
     let deadline = r.deadline_within in

@@ -9,4 +9,5 @@ mod Middle
 mod Keeping
 mod Words
 mod Summed
+mod Front
 mod Sided

@@ -12,7 +12,8 @@ use Rattle.table.specs.declared.Shape.{Shape}
 use Rattle.table.specs.WellFormed.{task_of, use_of, WellFormed}
 use Rattle.equations.specs.View.{view_of}
 use Rattle.equations.specs.Equations.{ceiling, reaches, middle, outside, extra}
-use Rattle.equations.specs.Ready.{CeilingsAre, UsesFrom, Longest}
+use Rattle.equations.specs.Ceilings.{CeilingsAre}
+use Rattle.equations.specs.Ready.{UsesFrom, Longest}
 
 module _ (s : List ℕ) (h : Shape) (settings : List ℕ) (i : ℕ) (first end : ℕ)
     (f : UsesFrom s h (task_of s i).priority first) (e : UsesFrom s h (get_or settings i 0 + 1) end) where

@@ -11,7 +11,8 @@ use Rattle.searches.specs.Indexed.{sum_to}
 use Rattle.searches.proofs.Searching.{largest_below}
 use Rattle.searches.proofs.Sums.{sum_to_same}
 use Rattle.table.specs.Fields.{word_at}
-use Rattle.table.specs.WellFormed.{task_of, use_of, user_of}
+use Rattle.table.specs.declared.Shape.{Shape}
+use Rattle.table.specs.WellFormed.{task_of, use_of, user_of, WellFormed}
 use Rattle.equations.specs.declared.Query.{Query}
 use Rattle.equations.specs.declared.picks.Sums.{Sums}
 use Rattle.equations.specs.Counting.{ceil}
@@ -33,54 +34,54 @@ either_order true false x = refl
 either_order false true x = refl
 either_order false false x = refl
 
-module _ (s settings v kept : List ℕ) (q : Query) (t : ℕ) (g : Asking s settings v kept q t) where
+module _ (s : List ℕ) (h : Shape) (w : WellFormed s h) (bytes : (j : ℕ) → get_or s j 0 ≤ 255) (settings v kept : List ℕ) (n : ℕ) (q : Query) (t : ℕ)
+    (g : Asking s h settings v kept n q t) where
   -- the place of use k's task
   abbrev user : ℕ → ℕ
-  user k = user_of s q.shape.tasks q.shape.uses_at k
+  user k = user_of s h.tasks h.uses_at k
 
   sleeps_most : q.sleeps ≤ 64
-  sleeps_most = omega (arith, g.query.sleeps, (g.ready.well.task_range q.task g.ready.task).sleeps)
+  sleeps_most = omega (arith, g.query.sleeps, (w.task_range q.task g.ready.task).sleeps)
 
   -- what is 0 of every use is 0 of those kept
-  of_kept : (f : ℕ → ℕ) → ((k : ℕ) → k < q.shape.uses → f (word_of s q.shape k) ≡ 0) → (i : ℕ) → i < q.kept → f (get_or kept i 0) ≡ 0
+  of_kept : (f : ℕ → ℕ) → ((k : ℕ) → k < h.uses → f (word_of s h k) ≡ 0) → (i : ℕ) → i < n → f (get_or kept i 0) ≡ 0
   of_kept f z =
-      kept_each (blocks (view_of s q.shape settings) q.task) (word_of s q.shape) q.shape.uses ((task_of s q.task).sleeps + 1) kept q.kept
+      kept_each (blocks (view_of s h settings) q.task) (word_of s h) h.uses ((task_of s q.task).sleeps + 1) kept n
       g.query.kept f (λ k l e. z k l)
 
   -- a kept use is of a task of the table
-  kept_user : (i : ℕ) → i < q.kept → get_or kept i 0 % 256 < q.shape.tasks
+  kept_user : (i : ℕ) → i < n → get_or kept i 0 % 256 < h.tasks
   kept_user i l =
       omega (
         arith,
-        of_kept (λ w. w % 256 + 1 - q.shape.tasks)
-            (λ k m. omega (arith, word_user s q.shape g.ready.well g.bytes k m, g.ready.well.owned k m)) i l,
+        of_kept (λ x. x % 256 + 1 - h.tasks)
+            (λ k m. omega (arith, word_user s h w bytes k m, w.owned k m)) i l,
       )
 
   -- and not too long
-  kept_short : (i : ℕ) → i < q.kept → get_or kept i 0 / 65536 ≤ 1000000
+  kept_short : (i : ℕ) → i < n → get_or kept i 0 / 65536 ≤ 1000000
   kept_short i l =
       omega (
         arith,
-        of_kept (λ w. w / 65536 - 1000000)
-            (λ k m. omega (arith, word_length s q.shape g.ready.well g.bytes k m, (g.ready.well.use_range k m).length_most)) i l,
+        of_kept (λ x. x / 65536 - 1000000)
+            (λ k m. omega (arith, word_length s h w bytes k m, (w.use_range k m).length_most)) i l,
       )
 
   -- what the picks ask
-  pub picking : Picking s v kept q t
+  pub picking : Picking s v kept h.tasks n q.sleeps t
   picking = record {
     sleeps = sleeps_most;
     few = omega (arith, g.query.kept.few, g.query.sleeps, sleeps_most);
     falls = g.query.kept.falls;
     timed = λ i l.
         let m = kept_user i l in
-        let b = g.ready.well.task_range (get_or kept i 0 % 256) m in
+        let b = w.task_range (get_or kept i 0 % 256) m in
         let run = b.run in
         let within = b.run_within in
         let deadline = b.deadline_within in
         record {
+          task = m;
           place = omega (arith, g.ready.sized);
-          place_most = omega (arith, g.ready.well.tasks_most);
-          within = omega (arith, g.ready.well.whole, g.ready.well.start);
           small = omega (arith, g.ready.most (get_or kept i 0 % 256) m, g.ready.length_most);
           period = omega arith;
           period_most = b.period;
@@ -89,76 +90,76 @@ module _ (s settings v kept : List ℕ) (q : Query) (t : ℕ) (g : Asking s sett
   }
 
   -- each use is in the bag once at least
-  times_some : (k : ℕ) → k < q.shape.uses → 1 ≤ times_of s v t (word_of s q.shape k)
+  times_some : (k : ℕ) → k < h.uses → 1 ≤ times_of s v t (word_of s h k)
   times_some k l =
-      let own = g.ready.well.owned k l in
-      let b = g.ready.well.task_range (user k) own in
+      let own = w.owned k l in
+      let b = w.task_range (user k) own in
       let run = b.run in
       let within = b.run_within in
       let deadline = b.deadline_within in
       omega (
         arith,
-        word_times s q.shape g.ready.well g.bytes k l v t,
-        product 1 1 (use_of s q.shape.uses_at k).times (ceil (t + get_or v (user k) 0) (task_of s (user k)).period) (g.ready.well.use_range k l).times
+        word_times s h w bytes k l v t,
+        product 1 1 (use_of s h.uses_at k).times (ceil (t + get_or v (user k) 0) (task_of s (user k)).period) (w.use_range k l).times
             (ceil_some (t + get_or v (user k) 0) (task_of s (user k)).period (omega (arith, g.ready.floor (user k) own)) (omega arith)),
       )
 
   -- how many reach a height, by words and by uses
-  same_reach : (y : ℕ) → sum_to (λ k. cond (blocks (view_of s q.shape settings) q.task k) (counted (times_of s v t) y (word_of s q.shape k)) 0) q.shape.uses
-      ≡ reach q.shape.uses (λ k. (use_of s q.shape.uses_at k).length) (repeats (view_of s q.shape settings) q.task v t) y
+  same_reach : (y : ℕ) → sum_to (λ k. cond (blocks (view_of s h settings) q.task k) (counted (times_of s v t) y (word_of s h k)) 0) h.uses
+      ≡ reach h.uses (λ k. (use_of s h.uses_at k).length) (repeats (view_of s h settings) q.task v t) y
   same_reach y =
-      sum_to_same _ _ q.shape.uses
+      sum_to_same _ _ h.uses
       (λ k l.
-      ap₂ (λ (a x : ℕ). cond (blocks (view_of s q.shape settings) q.task k) (cond (leb y a) x 0) 0)
-      (word_length s q.shape g.ready.well g.bytes k l) (word_times s q.shape g.ready.well g.bytes k l v t)
-      ∙ either_order (blocks (view_of s q.shape settings) q.task k) (leb y (use_of s q.shape.uses_at k).length) _)
+      ap₂ (λ (a x : ℕ). cond (blocks (view_of s h settings) q.task k) (cond (leb y a) x 0) 0)
+      (word_length s h w bytes k l) (word_times s h w bytes k l v t)
+      ∙ either_order (blocks (view_of s h settings) q.task k) (leb y (use_of s h.uses_at k).length) _)
 
   -- the sum of the largest kept is that of the task's bag
   largest_same : (x : ℕ) → x ≤ (task_of s q.task).sleeps + 1
-      → sum_of_largest x (bag_to q.kept (lengths_in kept) (times_in s v kept t)) ≡ sum_of_largest x (bag (view_of s q.shape settings) q.task v t)
+      → sum_of_largest x (bag_to n (lengths_in kept) (times_in s v kept t)) ≡ sum_of_largest x (bag (view_of s h settings) q.task v t)
   largest_same x le =
-      bag_layers 1000000 x q.kept (lengths_in kept) (times_in s v kept t) kept_short
+      bag_layers 1000000 x n (lengths_in kept) (times_in s v kept t) kept_short
       ∙ sum_to_same _ _ 1000000 (λ y p. g.query.kept.enough (times_of s v t) (λ k l e. times_some k l) (suc y) x le ∙ ap (min x) (same_reach (suc y)))
-      ∙ sym (bag_layers 1000000 x q.shape.uses (λ k. (use_of s q.shape.uses_at k).length) (repeats (view_of s q.shape settings) q.task v t)
-      (λ k l. (g.ready.well.use_range k l).length_most))
+      ∙ sym (bag_layers 1000000 x h.uses (λ k. (use_of s h.uses_at k).length) (repeats (view_of s h settings) q.task v t)
+      (λ k l. (w.use_range k l).length_most))
 
   -- the sums are those of the task's bag
-  pub sums_are : (p : Sums) → p ≡ sums_of s v kept q t
-      → (p.less ≡ sum_of_largest (task_of s q.task).sleeps (bag (view_of s q.shape settings) q.task v t))
-      × (p.more ≡ sum_of_largest ((task_of s q.task).sleeps + 1) (bag (view_of s q.shape settings) q.task v t))
+  pub sums_are : (p : Sums) → p ≡ sums_of s v kept n q.sleeps t
+      → (p.less ≡ sum_of_largest (task_of s q.task).sleeps (bag (view_of s h settings) q.task v t))
+      × (p.more ≡ sum_of_largest ((task_of s q.task).sleeps + 1) (bag (view_of s h settings) q.task v t))
   sums_are p e = (
-    ap (λ (a : Sums). a.less) e ∙ ap (λ (x : ℕ). sum_of_largest x (bag_to q.kept (lengths_in kept) (times_in s v kept t))) g.query.sleeps
+    ap (λ (a : Sums). a.less) e ∙ ap (λ (x : ℕ). sum_of_largest x (bag_to n (lengths_in kept) (times_in s v kept t))) g.query.sleeps
         ∙ largest_same (task_of s q.task).sleeps (omega arith),
-    ap (λ (a : Sums). a.more) e ∙ ap (λ (x : ℕ). sum_of_largest (x + 1) (bag_to q.kept (lengths_in kept) (times_in s v kept t))) g.query.sleeps
+    ap (λ (a : Sums). a.more) e ∙ ap (λ (x : ℕ). sum_of_largest (x + 1) (bag_to n (lengths_in kept) (times_in s v kept t))) g.query.sleeps
         ∙ largest_same ((task_of s q.task).sleeps + 1) (omega arith),
   )
 
   -- they are small, and so is B0
-  pub sums_most : (p : Sums) → p ≡ sums_of s v kept q t → (p.less ≤ 64000000) × (p.more ≤ 65000000)
+  pub sums_most : (p : Sums) → p ≡ sums_of s v kept n q.sleeps t → (p.less ≤ 64000000) × (p.more ≤ 65000000)
   sums_most p e =
       let few = sleeps_most in (
-        omega (arith, ap (λ (a : Sums). a.less) e, bag_most 1000000 q.sleeps q.kept (lengths_in kept) (times_in s v kept t) kept_short),
-        omega (arith, ap (λ (a : Sums). a.more) e, bag_most 1000000 (q.sleeps + 1) q.kept (lengths_in kept) (times_in s v kept t) kept_short),
+        omega (arith, ap (λ (a : Sums). a.less) e, bag_most 1000000 q.sleeps n (lengths_in kept) (times_in s v kept t) kept_short),
+        omega (arith, ap (λ (a : Sums). a.more) e, bag_most 1000000 (q.sleeps + 1) n (lengths_in kept) (times_in s v kept t) kept_short),
       )
 
   pub extra_most : q.extra ≤ 1000000
   unfolding extra
   extra_most =
-      let W = view_of s q.shape settings in
-      let used = use_of s q.shape.uses_at in
+      let W = view_of s h settings in
+      let used = use_of s h.uses_at in
       let counts : ℕ → Bool = λ k. outside W q.task (used k).priority && reaches W q.task k in
       omega (
         arith,
         g.query.extra,
-        largest_below (λ k. cond (counts k) (used k).length 0) q.shape.uses 1000000
-            (λ k l. le_trans (part_most (counts k) (used k).length) (g.ready.well.use_range k l).length_most),
+        largest_below (λ k. cond (counts k) (used k).length 0) h.uses 1000000
+            (λ k l. le_trans (part_most (counts k) (used k).length) (w.use_range k l).length_most),
       )
 
   -- all together
-  pub side_is : (run sleep block add : ℕ) (p : Sums) → p ≡ sums_of s v kept q t → run ≡ word_at s (20 * q.task + 4) → sleep ≡ word_at s (20 * q.task + 8)
-      → block ≡ max p.more (q.extra + p.less) → add ≡ additions (view_of s q.shape settings) q.task v t
-      → run + sleep + block + add ≡ right_side (view_of s q.shape settings) q.task v t
+  pub side_is : (run sleep block add : ℕ) (p : Sums) → p ≡ sums_of s v kept n q.sleeps t → run ≡ word_at s (20 * q.task + 4) → sleep ≡ word_at s (20 * q.task + 8)
+      → block ≡ max p.more (q.extra + p.less) → add ≡ additions (view_of s h settings) q.task v t
+      → run + sleep + block + add ≡ right_side (view_of s h settings) q.task v t
   unfolding blocking
   side_is run sleep block add p e er es eb ea =
-      let n = sums_are p e in
-      rw (er, es, eb, ea, n.0, n.1, g.query.extra)
+      let are = sums_are p e in
+      rw (er, es, eb, ea, are.0, are.1, g.query.extra)

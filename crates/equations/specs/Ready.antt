@@ -1,27 +1,22 @@
--- What the code is handed: the bytes of an accepted table, its ceilings, settings, and a vector on the way. For private functions: no promise to a caller.
-use Rattle.std.specs.Prelude.{ℕ, ◌+◌, ◌≤◌, ◌<◌, ◌≡◌, Bool, cond, ◌&&◌, List, [], leb, get_or, length}
+-- What the code is handed: the bytes of an accepted table, settings, and a vector on the way. For private functions: no promise to a caller.
+use Rattle.std.specs.Prelude.{ℕ, ◌+◌, ◌≤◌, ◌<◌, ◌≡◌, Bool, cond, ◌&&◌, List, leb, length}
 use Rattle.searches.specs.Searches.{largest}
 use Rattle.table.specs.declared.Shape.{Shape}
-use Rattle.table.specs.WellFormed.{task_of, use_of, WellFormed}
+use Rattle.table.specs.WellFormed.{task_of, use_of}
 use Rattle.rounds.specs.Vector.{at as value}
 use Rattle.equations.specs.declared.At.{At}
 use Rattle.equations.specs.declared.Query.{Query}
 use Rattle.equations.specs.View.{View, view_of}
-use Rattle.equations.specs.Equations.{ceiling, middle, reaches, extra}
+use Rattle.equations.specs.Equations.{middle, reaches, extra}
 use Rattle.equations.specs.Keeping.{Kept, word_of}
 
--- an accepted table, a vector with a value for each task, none above a million or below its task's C, and a task with a length up to a million
+-- a vector with a value for each task of the table, none above a million or below its task's C, and a task with a length up to a million
 pub record Ready (s : List ℕ) (h : Shape) (v : List ℕ) (at : At) : Type 0 where
-  pub well : WellFormed s h
   pub sized : length v ≡ h.tasks
   pub most : (j : ℕ) → j < h.tasks → value v j ≤ 1000000
   pub floor : (j : ℕ) → j < h.tasks → (task_of s j).run ≤ value v j
   pub task : at.task < h.tasks
   pub length_most : at.length ≤ 1000000
-
--- the ceilings of the table's resources, by number
-abbrev pub CeilingsAre : List ℕ → Shape → List ℕ → Type 0
-CeilingsAre s h ceilings = (r : ℕ) → r ≤ 16 → value ceilings r ≡ ceiling (view_of s h []) r
 
 -- r uses have a priority of at least p, and they stand first
 pub record UsesFrom (s : List ℕ) (h : Shape) (p r : ℕ) : Type 0 where
@@ -42,16 +37,14 @@ Longest s ceilings start p first n r =
 abbrev pub blocks : View → ℕ → ℕ → Bool
 blocks W i k = middle W i (W.usage k).priority && reaches W i k
 
--- q is what there is to know once of the task at place i, under the settings, and of the uses that can block it the longest are kept
-pub record QueryIs (s : List ℕ) (h : Shape) (settings : List ℕ) (i : ℕ) (words : List ℕ) (q : Query) : Type 0 where
-  pub shape : q.shape ≡ h
+-- q is what there is to know once of the task at place i, under the settings, and of the uses that can block it the longest are kept in n words
+pub record QueryIs (s : List ℕ) (h : Shape) (settings : List ℕ) (i : ℕ) (words : List ℕ) (n : ℕ) (q : Query) : Type 0 where
   pub task : q.task ≡ i
   pub sleeps : q.sleeps ≡ (task_of s i).sleeps
-  pub kept : Kept (blocks (view_of s h settings) i) (word_of s h) h.uses ((task_of s i).sleeps + 1) words q.kept
+  pub kept : Kept (blocks (view_of s h settings) i) (word_of s h) h.uses ((task_of s i).sleeps + 1) words n
   pub extra : q.extra ≡ extra (view_of s h settings) i
 
--- what a right side is worked out of: the table, a task's query with the kept uses, a vector on the way, a length
-pub record Asking (s settings v kept : List ℕ) (q : Query) (t : ℕ) : Type 0 where
-  pub bytes : (j : ℕ) → get_or s j 0 ≤ 255
-  pub query : QueryIs s q.shape settings q.task kept q
-  pub ready : Ready s q.shape v (record { task = q.task; length = t })
+-- what a right side is worked out of: a task's query with the kept uses, a vector on the way, a length
+pub record Asking (s : List ℕ) (h : Shape) (settings v words : List ℕ) (n : ℕ) (q : Query) (t : ℕ) : Type 0 where
+  pub query : QueryIs s h settings q.task words n q
+  pub ready : Ready s h v (record { task = q.task; length = t })

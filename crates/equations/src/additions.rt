@@ -5,9 +5,8 @@ ghost use Rattle.equations.specs.View.{view_of};
 ghost use Rattle.equations.specs.Equations.{addition, additions};
 ghost use Rattle.equations.specs.Ready.{Ready};
 
-use crate::At;
-use crate::numbers::{ceil_div, field};
-use table::Shape;
+use crate::numbers::ceil_div;
+use crate::{At, Equations};
 
 // The jobs of a task whose sleep is charged, each with its run time and its sleep.
 fn charged(t: u64, run: u64, sleep: u64, period: u64) -> u64
@@ -25,31 +24,33 @@ fn delayed(t: u64, value: u64, run: u64, period: u64) -> u64
     ceil_div(t + value - run, period) * run
 }
 
-// What the higher task j adds.
-fn added(bytes: &[u8], shape: Shape, settings: &[u8; 32], vector: &[u64], at: At, j: usize) -> u64
-    requires ready { Ready bytes.now shape vector.now at }
-    requires j_lt_task { j < at.task }
-    ensures { (result ≡ addition (view_of bytes.now shape settings.now) at.task vector.now at.length j) × (result ≤ 2000000000000) }
-{
-    let run = field(bytes, 20 * j + 4);
-    let period = field(bytes, 20 * j + 16);
-    if table::byte_at(bytes, 20 * at.task + 1) <= settings[j] {
-        return charged(at.length, run, field(bytes, 20 * j + 8), period);
+impl<'a> Equations<'a> {
+    // What the higher task j adds.
+    fn added(&self, vector: &[u64], at: At, j: usize) -> u64
+        requires ready { Ready self.now.table.bytes.now self.now.table.shape vector.now at }
+        requires j_lt_task { j < at.task }
+        ensures { (result ≡ addition (view_of self.now.table.bytes.now self.now.table.shape self.now.settings.now) at.task vector.now at.length j)
+            × (result ≤ 2000000000000) }
+    {
+        let higher = self.table.task(j);
+        let run = u64::from(higher.run);
+        let period = u64::from(higher.period);
+        if self.table.task(at.task).priority <= self.settings[j] {
+            return charged(at.length, run, u64::from(higher.sleep), period);
+        }
+        delayed(at.length, vector[j], run, period)
     }
-    delayed(at.length, vector[j], run, period)
-}
 
-// What all higher tasks add.
-pub fn additions(bytes: &[u8], shape: Shape, settings: &[u8; 32], vector: &[u64], at: At) -> u64
-    requires { Ready bytes.now shape vector.now at }
-    ensures { (result ≡ additions (view_of bytes.now shape settings.now) at.task vector.now at.length) × (result ≤ 64000000000000) }
-{
-    let i = at.task;
-    let mut sum: u64 = 0;
-    let mut j = 0;
-    while j < i {
-        sum += added(bytes, shape, settings, vector, at, j);
-        j += 1;
+    // What all higher tasks add.
+    pub fn additions(&self, vector: &[u64], at: At) -> u64
+        requires { Ready self.now.table.bytes.now self.now.table.shape vector.now at }
+        ensures { (result ≡ additions (view_of self.now.table.bytes.now self.now.table.shape self.now.settings.now) at.task vector.now at.length)
+            × (result ≤ 64000000000000) }
+    {
+        let mut sum = 0;
+        for j in 0..at.task {
+            sum += self.added(vector, at, j);
+        }
+        sum
     }
-    sum
 }

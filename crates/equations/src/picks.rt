@@ -2,8 +2,9 @@
 ghost use Rattle.std.specs.Prelude.{◌≡◌, ◌≤◌};
 ghost use Rattle.equations.specs.Picking.{tallied, times_of, sums_of, Picking, Small, Timed};
 
-use crate::Query;
-use crate::numbers::{ceil_div, field, smaller, wide};
+use crate::numbers::ceil_div;
+use crate::packed::Word;
+use crate::{Equations, KeptUses};
 
 // The sections of one use in a bag: their length, and how many there are.
 #[derive(Clone, Copy)]
@@ -27,63 +28,63 @@ pub struct Sums {
     pub more: u64,
 }
 
-// A pick taken, as far as X and X + 1 go.
-fn take(tally: Tally, x: u64, pick: Pick) -> Tally
-    requires { Small tally x pick }
-    ensures { result ≡ tallied x tally pick }
-{
-    let after = tally.taken + pick.times;
-    Tally {
-        taken: after,
-        less: tally.less + (smaller(x, after) - tally.taken) * pick.length,
-        more: tally.more + (smaller(x + 1, after) - tally.taken) * pick.length,
-    }
-}
-
-// How often the bag has a kept use: its N times the jobs of its task.
-fn times_of(bytes: &[u8], vector: &[u64], t: u64, word: u64) -> u64
-    requires { Timed bytes.now vector.now t word }
-    ensures { (result ≡ times_of bytes.now vector.now t word) × (result ≤ 510000000) }
-{
-    let place = (word % 256) as usize;
-    let jobs = ceil_div(t + vector[place], field(bytes, 20 * place + 16));
-    word / 256 % 256 * jobs
-}
-
-// Σ(X) and Σ(X + 1) of the bag, from one walk over the kept uses, until X + 1 sections are taken.
-pub fn two_sums(bytes: &[u8], vector: &[u64], kept: &[u64; 65], query: Query, t: u64) -> Sums
-    requires { Picking bytes.now vector.now kept.now query t }
-    ensures { result ≡ sums_of bytes.now vector.now kept.now query t }
-{
-    let x = wide(query.sleeps);
-    let count = query.kept;
-    let mut tally = Tally {
-        taken: 0,
-        less: 0,
-        more: 0,
-    };
-    let mut j = 0;
-    while j < count {
-        if x < tally.taken {
-            return Sums {
-                less: tally.less,
-                more: tally.more,
-            };
+impl Tally {
+    // A pick taken, as far as X and X + 1 go.
+    fn take(self, x: u64, pick: Pick) -> Tally
+        requires { Small self x pick }
+        ensures { result ≡ tallied x self pick }
+    {
+        let after = self.taken + pick.times;
+        Tally {
+            taken: after,
+            less: self.less + (x.min(after) - self.taken) * pick.length,
+            more: self.more + ((x + 1).min(after) - self.taken) * pick.length,
         }
-        let word = kept[j];
-        let times = times_of(bytes, vector, t, word);
-        tally = take(
-            tally,
-            x,
-            Pick {
-                length: word / 65536,
-                times,
-            },
-        );
-        j += 1;
     }
-    Sums {
-        less: tally.less,
-        more: tally.more,
+
+    // The sums without the count.
+    fn sums(self) -> Sums
+        ensures { result ≡ record { less = self.less; more = self.more } }
+    {
+        Sums {
+            less: self.less,
+            more: self.more,
+        }
+    }
+}
+
+impl<'a> Equations<'a> {
+    // How often the bag has a kept use: its N times the jobs of its task.
+    fn times_of(&self, vector: &[u64], t: u64, word: Word) -> u64
+        requires { Timed self.now.table.bytes.now vector.now self.now.table.shape.tasks t word }
+        ensures { (result ≡ times_of self.now.table.bytes.now vector.now t word) × (result ≤ 510000000) }
+    {
+        let place = word.place();
+        let task = self.table.task(place);
+        word.times() * ceil_div(t + vector[place], u64::from(task.period))
+    }
+
+    // Σ(x) and Σ(x + 1) of the bag, from one walk over the kept uses, until x + 1 sections are taken.
+    pub fn two_sums(&self, vector: &[u64], kept: &KeptUses, sleeps: u8, t: u64) -> Sums
+        requires { Picking self.now.table.bytes.now vector.now kept.now.words self.now.table.shape.tasks kept.now.count sleeps t }
+        ensures { result ≡ sums_of self.now.table.bytes.now vector.now kept.now.words kept.now.count sleeps t }
+    {
+        let x = u64::from(sleeps);
+        let mut tally = Tally {
+            taken: 0,
+            less: 0,
+            more: 0,
+        };
+        for word in &kept.words[..kept.count] {
+            if x < tally.taken {
+                break;
+            }
+            let pick = Pick {
+                length: word.length(),
+                times: self.times_of(vector, t, *word),
+            };
+            tally = tally.take(x, pick);
+        }
+        tally.sums()
     }
 }

@@ -1,4 +1,5 @@
 // An accepted table: its bytes with what it has. Who holds one knows that the bytes are well formed, and asks it of no one.
+ghost use Rattle.std.specs.Prelude.{ℕ, ◌≤◌, get_or};
 ghost use Rattle.table.specs.WellFormed.{WellFormed};
 
 use crate::fields::whole_word;
@@ -10,6 +11,7 @@ pub struct Table<'a> {
     pub bytes: &'a [u8],
     pub shape: Shape,
     pub ghost well_formed: { WellFormed bytes.now shape },
+    pub ghost are_bytes: { (j : ℕ) → get_or bytes.now j 0 ≤ 255 },
 }
 
 impl<'a> Table<'a> {

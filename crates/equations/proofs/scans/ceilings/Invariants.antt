@@ -1,12 +1,9 @@
--- The loops of `equations::scans::ceilings`.
-use Prim.Native.Nat.{ℕ, ◌≤◌, ◌-◌}
+-- The loop of `equations::scans::ceilings`.
+use Prim.Native.Nat.{ℕ, ◌≤◌}
 use lib.ListN.{length, get_or}
 use mathlib.Core.Path.{◌≡◌}
 use Rattle.equations.proofs.Scanned.{ceiling_to}
 use Rattle.equations.proofs.scans.ceilings.Given as goal
 
 abbrev pub invariant-loop-k : goal.invariant-loop-k
-invariant-loop-k l = (l.k ≤ l.uses) × (length l.found ≡ 32) × ((r : ℕ) → r ≤ 16 → get_or l.found r 0 ≡ ceiling_to l.bytes l.start l.k r)
-
-abbrev pub decreases-loop-k : goal.decreases-loop-k
-decreases-loop-k l = l.uses - l.k
+invariant-loop-k l = (length l.found ≡ 32) × ((r : ℕ) → r ≤ 16 → get_or l.found r 0 ≡ ceiling_to l.table.bytes.now l.table.shape.uses_at l.k r)
