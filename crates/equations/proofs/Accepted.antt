@@ -2,8 +2,8 @@
 use mathlib.Core.Path.{◌≡◌}
 use mathlib.Core.List.{List}
 use Prim.Native.Nat.{ℕ}
+use Rattle.std.specs.Prelude.{Ok}
 use Rattle.table.specs.declared.Shape.{Shape}
-use Rattle.table.specs.declared.Reading.TheVariants.{Accepted}
 use Rattle.table.specs.Reading.{read_table}
 use Rattle.table.specs.WellFormed.{WellFormed}
 use Rattle.table.proofs.Accepted.{well_formed}
@@ -17,5 +17,5 @@ pub table_lawful : (s : List ℕ) (h : Shape) (settings : List ℕ) → WellForm
 table_lawful s h settings w = lawful (view_of s h settings) (λ i l. (w.task_range i l).run)
 
 -- of every accepted table
-pub accepted_lawful : (s : List ℕ) (h : Shape) (settings : List ℕ) → read_table s ≡ Accepted h → Lawful (system_of (view_of s h settings))
+pub accepted_lawful : (s : List ℕ) (h : Shape) (settings : List ℕ) → read_table s ≡ Ok h → Lawful (system_of (view_of s h settings))
 accepted_lawful s h settings e = table_lawful s h settings (well_formed s h e)

@@ -3,7 +3,7 @@ ghost use Rattle.std.specs.Prelude.{ℕ, ◌≤◌, get_or};
 ghost use Rattle.table.specs.WellFormed.{WellFormed};
 
 use crate::fields::whole_word;
-use crate::{Reading, Refusal, Shape, Task, Use};
+use crate::{Refusal, Shape, Task, Use};
 
 // The bytes of an accepted table, and its shape.
 #[derive(Clone, Copy)]
@@ -21,12 +21,12 @@ impl<'a> Table<'a> {
 
     // Reads a table, whatever the bytes are.
     pub fn read(bytes: &'a [u8]) -> Result<Table<'a>, Refusal>
-        ensures { MatchResult result (λ table. (table.bytes.now ≡ bytes.now) × (read_table bytes.now ≡ Reading.Accepted table.shape)) (λ refusal. read_table bytes.now ≡ Reading.Refused refusal) }
+        ensures { MatchResult result
+            (λ table. (table.bytes.now ≡ bytes.now) × (read_table bytes.now ≡ Ok table.shape))
+            (λ refusal. read_table bytes.now ≡ Err refusal) }
     {
-        match crate::read(bytes) {
-            Reading::Accepted(shape) => Ok(Table { bytes, shape }),
-            Reading::Refused(refusal) => Err(refusal),
-        }
+        let shape = crate::read(bytes)?;
+        Ok(Table { bytes, shape })
     }
 
     // The task at a place.
