@@ -1,6 +1,7 @@
 -- What a host is told: refused with 8 exactly when the total is larger than the allowance, an answer given stands under any larger one, the
 -- verdict is yes exactly when no task has none, and a value is conditional exactly when some task has none.
 use Prim.Native.Nat.{ℕ, ◌-◌, ◌≤◌, ◌<◌}
+use Rattle.std.specs.Prelude.{Ok, Err}
 use mathlib.Core.Path.{◌≡◌, refl, sym, ap, ap₂, ◌∙◌}
 use mathlib.Core.Logic.{◌↔◌}
 use mathlib.Core.Bool.{Bool, true, false, cond}
@@ -14,9 +15,8 @@ use Rattle.searches.proofs.Testing.{impossible}
 use Rattle.searches.proofs.Searching.{all_each, all_fails, all_true}
 use Rattle.searches.proofs.Indexed.{filled_at}
 use Rattle.table.specs.declared.Shape.{Shape}
-use Rattle.table.specs.declared.Reading.{Reading}
-use Rattle.table.specs.declared.Reading.TheVariants.{Accepted, Refused}
-use Rattle.table.specs.Reading.{read_table}
+use Rattle.table.specs.declared.Why.TheVariants.{Allowance}
+use Rattle.table.specs.Reading.{Reading, read_table}
 use Rattle.table.specs.WellFormed.{task_of}
 use Rattle.table.proofs.Accepted.{well_formed}
 use Rattle.rounds.specs.Answer as theory
@@ -29,6 +29,7 @@ use Rattle.equations.specs.View.{own_settings}
 use Rattle.analysis.specs.declared.Analysis.{Analysis}
 use Rattle.analysis.specs.declared.TaskAnswer.TheVariants.{Bound, Conditional, Nothing}
 use Rattle.analysis.specs.Rounding.{bounded}
+use Rattle.analysis.specs.Refusing.{refusal_number}
 use Rattle.analysis.specs.Analysing.{own_system, refused_by, verdict_of, done_by, analysed_as, analysed}
 use Rattle.analysis.specs.Answering.{told, answer_at, told_of}
 use Rattle.analysis.proofs.Table.{table_size, deadline_is}
@@ -45,51 +46,51 @@ SomeNone s h = (j : ℕ) × (j < h.tasks) × (answer (own_system s h) j ≡ theo
 -- ---- the allowance
 
 module _ (s : List ℕ) (h : Shape) (allowance : ℕ) where
-  done_as : total_of s h ≤ allowance → analysed_as (Accepted h) s allowance ≡ done_by s h (analysis (own_system s h))
+  done_as : total_of s h ≤ allowance → analysed_as (Ok h) s allowance ≡ done_by s h (analysis (own_system s h))
   unfolding analysed_as
   done_as l = rw (within_allowed (own_system s h) allowance l)
 
-  spent_as : allowance < total_of s h → analysed_as (Accepted h) s allowance ≡ refused_by (record { number = 8; place = 0 })
+  spent_as : allowance < total_of s h → analysed_as (Ok h) s allowance ≡ refused_by (record { why = Allowance; place = 0 })
   unfolding analysed_as
   spent_as l = rw (beyond_refused (own_system s h) allowance l)
 
   -- an accepted table is refused exactly when its total is larger than the allowance, and then with 8
-  pub refused_exactly : read_table s ≡ Accepted h → ((analysed s allowance).refusal.number ≡ 8) ↔ (allowance < total_of s h)
-  refused_exactly e = (λ q. go q (dec_le (total_of s h) allowance), λ l. number ∙ ap (λ (a : Analysis). a.refusal.number) (spent_as l))
+  pub refused_exactly : read_table s ≡ Ok h → (refusal_number (analysed s allowance).refusal ≡ 8) ↔ (allowance < total_of s h)
+  refused_exactly e = (λ q. go q (dec_le (total_of s h) allowance), λ l. number ∙ ap (λ (a : Analysis). refusal_number a.refusal) (spent_as l))
     where
-      number : (analysed s allowance).refusal.number ≡ (analysed_as (Accepted h) s allowance).refusal.number
-      number = ap (λ (r : Reading). (analysed_as r s allowance).refusal.number) e
+      number : refusal_number (analysed s allowance).refusal ≡ refusal_number (analysed_as (Ok h) s allowance).refusal
+      number = ap (λ (r : Reading). refusal_number (analysed_as r s allowance).refusal) e
 
-      go : (analysed s allowance).refusal.number ≡ 8 → Dec (total_of s h ≤ allowance) → allowance < total_of s h
+      go : refusal_number (analysed s allowance).refusal ≡ 8 → Dec (total_of s h ≤ allowance) → allowance < total_of s h
       go q (no l) = omega arith
-      go q (yes l) = absurd (omega (arith, q, number, ap (λ (a : Analysis). a.refusal.number) (done_as l)))
+      go q (yes l) = absurd (omega (arith, q, number, ap (λ (a : Analysis). refusal_number a.refusal) (done_as l)))
 
 -- a larger allowance never alters an answer already given: what is not refused with 8 stands
-pub larger_allowance : (s : List ℕ) (a b : ℕ) → a ≤ b → ((analysed s a).refusal.number ≡ 8 → ⊥) → analysed s b ≡ analysed s a
+pub larger_allowance : (s : List ℕ) (a b : ℕ) → a ≤ b → (refusal_number (analysed s a).refusal ≡ 8 → ⊥) → analysed s b ≡ analysed s a
 unfolding analysed_as
 larger_allowance s a b l given = go (read_table s) given
   where
-    within : (h : Shape) → ((analysed_as (Accepted h) s a).refusal.number ≡ 8 → ⊥) → Dec (total_of s h ≤ a)
-        → analysed_as (Accepted h) s b ≡ analysed_as (Accepted h) s a
+    within : (h : Shape) → (refusal_number (analysed_as (Ok h) s a).refusal ≡ 8 → ⊥) → Dec (total_of s h ≤ a)
+        → analysed_as (Ok h) s b ≡ analysed_as (Ok h) s a
     within h n (yes k) = done_as s h b (omega arith) ∙ sym (done_as s h a k)
-    within h n (no k) = absurd (n (ap (λ (x : Analysis). x.refusal.number) (spent_as s h a (omega arith))))
+    within h n (no k) = absurd (n (ap (λ (x : Analysis). refusal_number x.refusal) (spent_as s h a (omega arith))))
 
-    go : (r : Reading) → ((analysed_as r s a).refusal.number ≡ 8 → ⊥) → analysed_as r s b ≡ analysed_as r s a
-    go (Refused f) n = refl
-    go (Accepted h) n = within h n (dec_le (total_of s h) a)
+    go : (r : Reading) → (refusal_number (analysed_as r s a).refusal ≡ 8 → ⊥) → analysed_as r s b ≡ analysed_as r s a
+    go (Err f) n = refl
+    go (Ok h) n = within h n (dec_le (total_of s h) a)
 
 -- no answer is about more than 32 tasks
 pub tasks_most : (s : List ℕ) (allowance : ℕ) → (analysed s allowance).tasks ≤ 32
 unfolding analysed_as
 tasks_most s allowance = go (read_table s) refl
   where
-    within : (h : Shape) → h.tasks ≤ 32 → Dec (total_of s h ≤ allowance) → (analysed_as (Accepted h) s allowance).tasks ≤ 32
+    within : (h : Shape) → h.tasks ≤ 32 → Dec (total_of s h ≤ allowance) → (analysed_as (Ok h) s allowance).tasks ≤ 32
     within h few (yes l) = rw (done_as s h allowance l) few
     within h few (no l) = rw (spent_as s h allowance (omega arith)) (omega arith)
 
     go : (r : Reading) → read_table s ≡ r → (analysed_as r s allowance).tasks ≤ 32
-    go (Refused f) e = omega arith
-    go (Accepted h) e = within h (well_formed s h e).tasks_most (dec_le (total_of s h) allowance)
+    go (Err f) e = omega arith
+    go (Ok h) e = within h (well_formed s h e).tasks_most (dec_le (total_of s h) allowance)
 
 -- ---- the verdict and the answers
 
@@ -112,7 +113,7 @@ told_answer false d (theory.bound t) = refl
 told_answer true d theory.none = refl
 told_answer false d theory.none = refl
 
-module _ (s : List ℕ) (h : Shape) (e : read_table s ≡ Accepted h) (allowance : ℕ) (l : total_of s h ≤ allowance) where
+module _ (s : List ℕ) (h : Shape) (e : read_table s ≡ Ok h) (allowance : ℕ) (l : total_of s h ≤ allowance) where
   -- the reply in full
   whole : analysed s allowance ≡ done_by s h (analysis (own_system s h))
   whole = ap (λ (r : Reading). analysed_as r s allowance) e ∙ done_as s h allowance l
@@ -165,7 +166,7 @@ module _ (s : List ℕ) (h : Shape) (e : read_table s ≡ Accepted h) (allowance
         back false v f w = rw (v, f)
 
 -- where every task has a bound, each is its value, and solves its equation within its deadline
-pub yes_solves : (s : List ℕ) (h : Shape) → read_table s ≡ Accepted h → verdict_of s h ≡ true → (i : ℕ) → i < h.tasks
+pub yes_solves : (s : List ℕ) (h : Shape) → read_table s ≡ Ok h → verdict_of s h ≡ true → (i : ℕ) → i < h.tasks
     → (t : ℕ) × (answer (own_system s h) i ≡ theory.bound t) × (at (analysis (own_system s h)).vector i ≡ t)
     × Solution ((own_system s h).side i (analysis (own_system s h)).vector) (task_of s i).deadline t
 yes_solves s h e yes-all i p =
@@ -182,7 +183,7 @@ yes_solves s h e yes-all i p =
     go theory.none q b r x = absurd (impossible cc)
 
 -- a verdict of yes is given only within the allowance
-pub verdict_enough : (s : List ℕ) (h : Shape) → read_table s ≡ Accepted h → (allowance : ℕ) → (analysed s allowance).verdict ≡ true
+pub verdict_enough : (s : List ℕ) (h : Shape) → read_table s ≡ Ok h → (allowance : ℕ) → (analysed s allowance).verdict ≡ true
     → total_of s h ≤ allowance
 verdict_enough s h e allowance q = go (dec_le (total_of s h) allowance)
   where
@@ -192,12 +193,12 @@ verdict_enough s h e allowance q = go (dec_le (total_of s h) allowance)
         let spent = ap (λ (r : Reading). (analysed_as r s allowance).verdict) e ∙ ap (λ (a : Analysis). a.verdict) (spent_as s h allowance (omega arith)) in
         absurd (impossible (cc (q, spent)))
 
-module _ (s : List ℕ) (h : Shape) (e : read_table s ≡ Accepted h) (allowance : ℕ) (yes-all : (analysed s allowance).verdict ≡ true) where
+module _ (s : List ℕ) (h : Shape) (e : read_table s ≡ Ok h) (allowance : ℕ) (yes-all : (analysed s allowance).verdict ≡ true) where
   -- then nothing is refused, and the answers are those of all tasks
-  pub yes_unrefused : ((analysed s allowance).refusal.number ≡ 0) × ((analysed s allowance).tasks ≡ h.tasks)
+  pub yes_unrefused : (refusal_number (analysed s allowance).refusal ≡ 0) × ((analysed s allowance).tasks ≡ h.tasks)
   yes_unrefused =
       let w = whole s h e allowance (verdict_enough s h e allowance yes-all) in
-      (ap (λ (a : Analysis). a.refusal.number) w, ap (λ (a : Analysis). a.tasks) w)
+      (ap (λ (a : Analysis). refusal_number a.refusal) w, ap (λ (a : Analysis). a.tasks) w)
 
   -- and each task is told a bound, from 1 to its deadline
   pub yes_told : (i : ℕ) → i < h.tasks → (t : ℕ) × (answer_at (analysed s allowance) i ≡ Bound t) × (1 ≤ t) × (t ≤ (task_of s i).deadline)
@@ -218,7 +219,7 @@ bound_yes a i t e = go (ltb i 32) a.verdict (get_or a.bounds i false) (get_or a.
     go false verdict mark x q = absurd (impossible cc)
 
 -- so only where every task has one, and then it is the task's answer
-pub bound_says : (s : List ℕ) (h : Shape) → read_table s ≡ Accepted h → (allowance i t : ℕ) → i < h.tasks
+pub bound_says : (s : List ℕ) (h : Shape) → read_table s ≡ Ok h → (allowance i t : ℕ) → i < h.tasks
     → answer_at (analysed s allowance) i ≡ Bound t → (verdict_of s h ≡ true) × (answer (own_system s h) i ≡ theory.bound t)
 bound_says s h e allowance i t p q =
     let l = verdict_enough s h e allowance (bound_yes (analysed s allowance) i t q) in

@@ -1,9 +1,9 @@
 -- What the analysis of an accepted table is worth: its vector is the largest that agrees with itself, and each answer is right under it.
 use Prim.Native.Nat.{ℕ, ◌<◌}
+use Rattle.std.specs.Prelude.{Ok}
 use mathlib.Core.Path.{◌≡◌}
 use mathlib.Core.List.{List}
 use Rattle.table.specs.declared.Shape.{Shape}
-use Rattle.table.specs.declared.Reading.TheVariants.{Accepted}
 use Rattle.table.specs.Reading.{read_table}
 use Rattle.table.proofs.Accepted.{well_formed}
 use Rattle.rounds.specs.Answer.{Right, value}
@@ -17,7 +17,7 @@ use Rattle.analysis.specs.Analysing.{own_system}
 use Rattle.equations.proofs.Accepted.{accepted_lawful}
 use Rattle.analysis.proofs.Table.{table_size}
 
-module _ (s : List ℕ) (h : Shape) (e : read_table s ≡ Accepted h) where
+module _ (s : List ℕ) (h : Shape) (e : read_table s ≡ Ok h) where
   -- the largest vector in which each value is the bound under it, or the deadline where there is none
   pub largest_vector : Final (own_system s h) (analysis (own_system s h)).vector
   largest_vector = analysis_final (own_system s h) (accepted_lawful s h (own_settings s h.tasks) e)

@@ -1,88 +1,69 @@
 -- One turn of a round, as the code makes it.
 use Prim.Native.Nat.{ℕ, ◌+◌, ◌≤◌, ◌<◌}
 use mathlib.Core.Path.{◌≡◌, refl, sym, ap, subst, ◌∙◌}
-use mathlib.Core.Bool.{Bool, true, false, ◌||◌}
+use Rattle.std.specs.Prelude.{Option, Some, None}
+use Rattle.std.specs.Option.{is_some}
+use mathlib.Core.Bool.{Bool, false, ◌||◌, or_comm}
 use mathlib.Core.List.{List}
 use native.Mathlib.Omega.{arith}
-use lib.ListN.{get_or, length, set, length-set}
+use lib.ListN.{get_or, length, set}
 use lib.Seq.{get_or-set_same, get_or-set_other}
 use borrow.Author.Count.{below_more}
-use borrow.Author.Tests.{lt-ltb, le-ltb}
-use Rattle.searches.proofs.Testing.{impossible}
-use Rattle.table.specs.declared.Shape.{Shape}
-use Rattle.table.specs.WellFormed.{task_of, WellFormed}
+use Rattle.table.specs.WellFormed.{task_of}
 use Rattle.rounds.specs.System.{System, size}
 use Rattle.rounds.specs.OnWay.{OnWay}
 use Rattle.rounds.proofs.OnWay.{on_way_floor}
+use Rattle.equations.specs.declared.Equations.{Equations}
 use Rattle.equations.specs.declared.Query.{Query}
+use Rattle.equations.specs.declared.keeps.KeptUses.{KeptUses}
 use Rattle.equations.specs.Ready.{QueryIs}
-use Rattle.analysis.specs.declared.Answer.{Answer}
-use Rattle.analysis.specs.declared.Answer.TheVariants.{Bound, Nothing}
-use Rattle.analysis.specs.Solving.{answer_of, is_bound, Solvable}
-use Rattle.analysis.specs.Rounding.{bounded, Lowers, Listed}
-use Rattle.rounds.specs.Rounds.{Progress, reply, lowers, changed, answer_in}
+use Rattle.analysis.specs.Seen.{equations_in}
+use Rattle.analysis.specs.Solving.{answer_of, Solvable}
+use Rattle.rounds.specs.Rounds.{Progress, reply, round, lowers, changed, answer_in}
 use Rattle.rounds.specs.RoundLoop.{Turned}
 use Rattle.rounds.proofs.RoundLoop.{turned_over, turned_next, turned_answer, turned_end}
-use Rattle.analysis.specs.declared.Reply.{Reply}
-use Rattle.analysis.specs.declared.turns.Round.{Round}
-use Rattle.analysis.specs.Rounding.{progress, Marks, Rounded}
-use Rattle.analysis.specs.Solving.{Solved}
+use Rattle.analysis.specs.declared.solver.Reply.{Reply}
+use Rattle.analysis.specs.Rounding.{bounded, progress, Lowers, Marks, Left}
 use Rattle.equations.proofs.Accepted.{table_lawful}
-use Rattle.analysis.proofs.Table.{equations_of, table_size, deadline_is}
+use Rattle.analysis.proofs.Table.{table_size, deadline_is}
 
--- a smaller bound replaces the value, and raises the flag
-pub lowers_yes : (v : List ℕ) (i t : ℕ) (a : Answer) (flag : Bool) → a ≡ Bound t → t < get_or v i 0 → Lowers v i a flag (set v i t) true
-lowers_yes v i t a flag e l = record { vector = rw (e, lt-ltb t (get_or v i 0) l); raised = rw (e, lt-ltb t (get_or v i 0) l) }
+module _ (E : Equations) where
+  -- there is an equation for each task
+  pub sized : size (equations_in E) ≡ E.table.shape.tasks
+  sized = table_size E.table.bytes.now E.table.shape E.settings.now E.table.well_formed
 
--- one that is not smaller leaves both
-pub lowers_no : (v : List ℕ) (i t : ℕ) (a : Answer) (flag : Bool) → a ≡ Bound t → get_or v i 0 ≤ t → Lowers v i a flag v flag
-lowers_no v i t a flag e l = record { vector = rw (e, le-ltb t (get_or v i 0) l); raised = rw (e, le-ltb t (get_or v i 0) l) }
+  module _ (v : List ℕ) (way : OnWay (equations_in E) v) where
+    -- a vector on the way has a value for each task
+    pub way_sized : length v ≡ E.table.shape.tasks
+    way_sized = way.sized ∙ sized
+
+    way_most : (j : ℕ) → j < E.table.shape.tasks → get_or v j 0 ≤ 1000000
+    way_most j l =
+        let r = E.table.well_formed.task_range j l in
+        omega (arith, way.within j, deadline_is E.table.bytes.now E.table.shape E.settings.now E.table.well_formed j l, r.deadline_within, r.period)
+
+    way_floor : (j : ℕ) → j < E.table.shape.tasks → (task_of E.table.bytes.now j).run ≤ get_or v j 0
+    way_floor j l =
+        let r = E.table.well_formed.task_range j l in
+        on_way_floor (equations_in E) (table_lawful E.table.bytes.now E.table.shape E.settings.now E.table.well_formed) v way j (rw sized l)
+        (task_of E.table.bytes.now j).run (omega arith)
+        (omega (arith, deadline_is E.table.bytes.now E.table.shape E.settings.now E.table.well_formed j l, r.run_within))
+
+    -- the task at place i can be solved under it
+    pub solvable : (i : ℕ) (kept : KeptUses) (q : Query) → i < E.table.shape.tasks
+        → QueryIs E.table.bytes.now E.table.shape E.settings.now i kept.words kept.count q → Solvable E v kept q
+    solvable i kept q l k = record {
+      query = subst (λ x. QueryIs E.table.bytes.now E.table.shape E.settings.now x kept.words kept.count q) (sym k.task) k;
+      task = rw k.task l;
+      sized = way_sized;
+      most = way_most;
+      floor = way_floor;
+    }
 
 -- the code's test for a bound is the definition's
-pub bound_same : (a : Answer) → is_bound a ≡ bounded (answer_of a)
-bound_same (Bound t) = refl
-bound_same Nothing = refl
-
-module _ (s settings ceilings v : List ℕ) (h : Shape) (g : Listed s h ceilings) (way : OnWay (equations_of s h settings) v) where
-  S : System
-  S = equations_of s h settings
-
-  -- a vector on the way has a value for each task
-  pub way_sized : length v ≡ h.tasks
-  way_sized = way.sized ∙ table_size s h settings g.well
-
-  way_most : (j : ℕ) → j < h.tasks → get_or v j 0 ≤ 1000000
-  way_most j l =
-      let r = g.well.task_range j l in
-      omega (arith, way.within j, deadline_is s h settings g.well j l, r.deadline_within, r.period)
-
-  way_floor : (j : ℕ) → j < h.tasks → (task_of s j).run ≤ get_or v j 0
-  way_floor j l =
-      let r = g.well.task_range j l in
-      on_way_floor (equations_of s h settings) (table_lawful s h settings g.well) v way j (rw (table_size s h settings g.well) l) (task_of s j).run (omega arith)
-      (omega (arith, deadline_is s h settings g.well j l, r.run_within))
-
-  -- the task at place i can be solved under it
-  pub solvable : (i : ℕ) (kept : List ℕ) (q : Query) → i < h.tasks → QueryIs s h settings i kept q → Solvable s settings v kept q
-  solvable i kept q l k =
-      let sh = k.shape in
-      let ti = k.task in
-      record {
-        well = rw sh g.well;
-        bytes = g.bytes;
-        query = subst (λ x. QueryIs s x settings q.task kept q) (sym sh) (subst (λ x. QueryIs s h settings x kept q) (sym ti) k);
-        task = rw (sh, ti) l;
-        sized = rw sh way_sized;
-        most = rw sh way_most;
-        floor = rw sh way_floor;
-      }
-
--- what the solver replied, by place
-pub replied_at : (s settings v kept : List ℕ) (h : Shape) (i made allowance : ℕ) (q : Query) (r : Reply) → QueryIs s h settings i kept q
-    → Solved allowance (reply (equations_of s q.shape settings) q.task v made) r → Solved allowance (reply (equations_of s h settings) i v made) r
-replied_at s settings v kept h i made allowance q r k g =
-    subst (λ x. Solved allowance (reply (equations_of s h settings) x v made) r) k.task
-    (subst (λ x. Solved allowance (reply (equations_of s x settings) q.task v made) r) k.shape g)
+bound_told : (a : Option ℕ) → is_some a ≡ bounded (answer_of a)
+bound_told (Some t) = refl
+bound_told None = refl
 
 -- where the round stands before turn i: the definition's turns, and which of the tasks so far have a bound
 pub record Standing (n : ℕ) (S : System) (origin : Progress) (allowance i : ℕ) (now : Progress) (flag : Bool) (bounds : List Bool) : Type 0 where
@@ -90,56 +71,44 @@ pub record Standing (n : ℕ) (S : System) (origin : Progress) (allowance i : �
   pub marks : Marks n bounds
   pub marked : (j : ℕ) → j < i → get_or bounds j false ≡ bounded (answer_in S origin j)
 
-module _ (s settings v : List ℕ) (h : Shape) (w : WellFormed s h) (origin : Progress) (allowance i made : ℕ) (flag : Bool) (bounds : List Bool)
-    (g : Standing h.tasks (equations_of s h settings) origin allowance i (progress v made) flag bounds) (l : i < h.tasks)
-    (r : Reply) (k : Solved allowance (reply (equations_of s h settings) i v made) r) where
-  inside : i < size (equations_of s h settings)
-  inside = rw (table_size s h settings w) l
+module _ (E : Equations) (v : List ℕ) (origin : Progress) (allowance i made : ℕ) (flag : Bool) (bounds : List Bool)
+    (g : Standing E.table.shape.tasks (equations_in E) origin allowance i (progress v made) flag bounds) where
+  module _ (l : i < E.table.shape.tasks) where
+    inside : i < size (equations_in E)
+    inside = rw (sized E) l
 
-  -- the allowance is spent: the round passes it
-  pub spent_round : (x : Round) → x.spent ≡ true → r.spent ≡ true → (u : List ℕ) → Rounded h.tasks allowance (equations_of s h settings) origin u bounds x
-  spent_round x e f u = record {
-    marks = g.marks;
-    within = λ z. absurd (impossible cc);
-    beyond = λ z. turned_over (equations_of s h settings) origin allowance i (progress v made) flag g.turned inside (k.beyond f);
-  }
+    -- where the allowance is spent the round passes it
+    pub spent_round : allowance < (reply (equations_in E) i v made).evaluations → allowance < (round (equations_in E) origin).evaluations
+    spent_round = turned_over (equations_in E) origin allowance i (progress v made) flag g.turned inside
 
-  -- one turn further
-  pub next_turn : r.spent ≡ false → (b : Bool) → b ≡ is_bound r.answer → (u : List ℕ) (raised : Bool) → Lowers v i r.answer flag u raised
-      → Standing h.tasks (equations_of s h settings) origin allowance (i + 1) (progress u r.evaluations) raised (set bounds i b)
-  next_turn f b e u raised low =
-      let whole = k.within f in
-      let turned = turned_next (equations_of s h settings) origin allowance i (progress v made) flag g.turned (table_lawful s h settings w) inside
-      (record { answer = answer_of r.answer; evaluations = r.evaluations }) whole.0 whole.1 in
-      let told = turned_answer (equations_of s h settings) origin allowance i (progress v made) flag g.turned
-      (record { answer = answer_of r.answer; evaluations = r.evaluations }) whole.0 in
+    -- one turn further
+    pub next_turn : (r : Reply) → record { answer = answer_of r.bound; evaluations = r.evaluations } ≡ reply (equations_in E) i v made → r.evaluations ≤ allowance
+        → (b : Bool) → b ≡ is_some r.bound → length bounds ≡ 32 → (u : List ℕ) (raised : Bool) → Lowers v i r.bound u raised
+        → Standing E.table.shape.tasks (equations_in E) origin allowance (i + 1) (progress u r.evaluations) (flag || raised) (set bounds i b)
+    next_turn r whole few b e long u raised low =
+        let turned = turned_next (equations_in E) origin allowance i (progress v made) flag g.turned
+        (table_lawful E.table.bytes.now E.table.shape E.settings.now E.table.well_formed) inside
+        (record { answer = answer_of r.bound; evaluations = r.evaluations }) whole few in
+        let told = turned_answer (equations_in E) origin allowance i (progress v made) flag g.turned
+        (record { answer = answer_of r.bound; evaluations = r.evaluations }) whole in
+        record {
+          turned = subst (λ x. Turned (equations_in E) origin allowance (i + 1) (progress u r.evaluations) x)
+              (or_comm (lowers v i (answer_of r.bound)) flag ∙ ap (λ (x : Bool). flag || x) (sym low.raised))
+              (subst (λ x. Turned (equations_in E) origin allowance (i + 1) (progress x r.evaluations) (lowers v i (answer_of r.bound) || flag)) (sym low.vector) turned);
+          marks = λ j p. get_or-set_other bounds i j b false (λ z. omega arith) ∙ g.marks j p;
+          marked = below_more (λ j. get_or (set bounds i b) j false ≡ bounded (answer_in (equations_in E) origin j)) i
+              (λ j p. get_or-set_other bounds i j b false (λ z. omega arith) ∙ g.marked j p)
+              (get_or-set_same bounds i b false (omega (arith, E.table.well_formed.tasks_most)) ∙ e ∙ bound_told r.bound ∙ ap bounded (sym told));
+        }
+
+  -- after the last turn the round is done
+  pub done_round : E.table.shape.tasks ≤ i → Left allowance (equations_in E) origin v bounds made flag
+  done_round l =
+      let size_is = sized E in
+      let end = turned_end (equations_in E) origin allowance i (progress v made) flag g.turned (omega arith) in
       record {
-        turned = subst (λ x. Turned (equations_of s h settings) origin allowance (i + 1) (progress u r.evaluations) x) (sym low.raised)
-            (subst (λ x. Turned (equations_of s h settings) origin allowance (i + 1) (progress x r.evaluations) (lowers v i (answer_of r.answer) || flag)) (sym low.vector) turned);
-        marks = record {
-          sized = length-set bounds i b ∙ g.marks.sized;
-          rest = λ j p. get_or-set_other bounds i j b false (λ z. omega arith) ∙ g.marks.rest j p;
-        };
-        marked = below_more (λ j. get_or (set bounds i b) j false ≡ bounded (answer_in (equations_of s h settings) origin j)) i
-            (λ j p. get_or-set_other bounds i j b false (λ z. omega arith) ∙ g.marked j p)
-            (get_or-set_same bounds i b false (omega (arith, g.marks.sized, w.tasks_most)) ∙ e ∙ bound_same r.answer ∙ ap bounded (sym told));
-      }
-
--- after the last turn the round is done
-pub done_round : (s settings v : List ℕ) (h : Shape) (origin : Progress) (allowance i made : ℕ) (flag : Bool) (bounds : List Bool)
-    → WellFormed s h → Standing h.tasks (equations_of s h settings) origin allowance i (progress v made) flag bounds → h.tasks ≤ i
-    → Rounded h.tasks allowance (equations_of s h settings) origin v bounds (record { evaluations = made; changed = flag; spent = false })
-done_round s settings v h origin allowance i made flag bounds w g l =
-    let S = equations_of s h settings in
-    let size_is = table_size s h settings w in
-    let end = turned_end S origin allowance i (progress v made) flag g.turned (omega arith) in
-    record {
-      marks = g.marks;
-      within = λ z. record {
         done = end;
         counted = g.turned.counted;
         told = g.turned.told ∙ ap (changed origin) end;
         bounds_are = λ j p. g.marked j (omega arith);
-      };
-      beyond = λ z. absurd (impossible cc);
-    }
+      }

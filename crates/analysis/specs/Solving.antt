@@ -1,35 +1,29 @@
 -- What the one-task solver is handed, and what it replies. For private functions: no promise to a caller.
-use Rattle.std.specs.Prelude.{ℕ, ◌≤◌, ◌<◌, ◌≡◌, Bool, true, false, List, get_or, length}
+use Rattle.std.specs.Prelude.{ℕ, ◌≤◌, ◌<◌, ◌≡◌, List, get_or, length, Option, Some, None, Result, Ok, Err}
 use Rattle.rounds.specs.Answer as theory
 use Rattle.rounds.specs.Solver as theory-solver
-use Rattle.table.specs.WellFormed.{task_of, WellFormed}
+use Rattle.table.specs.WellFormed.{task_of}
+use Rattle.equations.specs.declared.Equations.{Equations}
 use Rattle.equations.specs.declared.Query.{Query}
+use Rattle.equations.specs.declared.keeps.KeptUses.{KeptUses}
 use Rattle.equations.specs.Ready.{QueryIs}
-use Rattle.analysis.specs.declared.Answer.{Answer}
-use Rattle.analysis.specs.declared.Answer.TheVariants.{Bound, Nothing}
-use Rattle.analysis.specs.declared.Reply.{Reply}
+use Rattle.analysis.specs.declared.Spent.{Spent}
+use Rattle.analysis.specs.declared.solver.Reply.{Reply}
 
 -- the definition's answer of the code's
-abbrev pub answer_of : Answer → theory.Answer
-answer_of (Bound t) = theory.bound t
-answer_of Nothing = theory.none
+abbrev pub answer_of : Option ℕ → theory.Answer
+answer_of (Some t) = theory.bound t
+answer_of None = theory.none
 
--- whether an answer is a bound
-abbrev pub is_bound : Answer → Bool
-is_bound (Bound t) = true
-is_bound Nothing = false
-
--- an accepted table of bytes, a task's query with the kept uses, a vector within a million and nowhere below C
-pub record Solvable (s settings v kept : List ℕ) (q : Query) : Type 0 where
-  pub well : WellFormed s q.shape
-  pub bytes : (j : ℕ) → get_or s j 0 ≤ 255
-  pub query : QueryIs s q.shape settings q.task kept q
-  pub task : q.task < q.shape.tasks
-  pub sized : length v ≡ q.shape.tasks
-  pub most : (j : ℕ) → j < q.shape.tasks → get_or v j 0 ≤ 1000000
-  pub floor : (j : ℕ) → j < q.shape.tasks → (task_of s j).run ≤ get_or v j 0
+-- a task's query with the kept uses, a vector within a million and nowhere below C
+pub record Solvable (e : Equations) (v : List ℕ) (k : KeptUses) (q : Query) : Type 0 where
+  pub query : QueryIs e.table.bytes.now e.table.shape e.settings.now q.task k.words k.count q
+  pub task : q.task < e.table.shape.tasks
+  pub sized : length v ≡ e.table.shape.tasks
+  pub most : (j : ℕ) → j < e.table.shape.tasks → get_or v j 0 ≤ 1000000
+  pub floor : (j : ℕ) → j < e.table.shape.tasks → (task_of e.table.bytes.now j).run ≤ get_or v j 0
 
 -- the definition's reply where that is within the allowance; spent where it isn't
-pub record Solved (allowance : ℕ) (whole : theory-solver.Reply) (r : Reply) : Type 0 where
-  pub within : r.spent ≡ false → (record { answer = answer_of r.answer; evaluations = r.evaluations } ≡ whole) × (r.evaluations ≤ allowance)
-  pub beyond : r.spent ≡ true → allowance < whole.evaluations
+abbrev pub Solved : ℕ → theory-solver.Reply → Result Reply Spent → Type 0
+Solved allowance whole (Ok r) = (record { answer = answer_of r.bound; evaluations = r.evaluations } ≡ whole) × (r.evaluations ≤ allowance)
+Solved allowance whole (Err spent) = allowance < whole.evaluations

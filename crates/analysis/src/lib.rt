@@ -2,8 +2,6 @@
 #![tactic(auto)]
 
 ghost use Rattle.std.specs.Prelude.{◌≡◌};
-ghost use Rattle.table.specs.declared.Reading.TheVariants.{Accepted};
-ghost use Rattle.table.specs.WellFormed.{WellFormed};
 ghost use Rattle.analysis.specs.Analysing.{refused_by, analysed_as, analysed};
 ghost use Rattle.analysis.specs.Answering.{told, answer_at};
 
@@ -11,14 +9,9 @@ mod solver;
 mod starts;
 mod turns;
 
-use table::{Reading, Refusal, Shape};
-
-// What the solver answers for a task under a vector: its bound, or none.
-#[derive(Clone, Copy)]
-pub enum Answer {
-    Bound(u64),
-    Nothing,
-}
+use equations::Equations;
+use table::{Refusal, Table, Why};
+use turns::Rounds;
 
 // What the analysis answers for a task: its bound; its value on the condition that a task with none is mended; or none.
 #[derive(Clone, Copy)]
@@ -28,33 +21,15 @@ pub enum TaskAnswer {
     Nothing,
 }
 
-// The evaluations made so far, and how many are allowed.
+// That the next evaluation would pass the allowance.
 #[derive(Clone, Copy)]
-pub struct Budget {
-    pub made: u64,
-    pub allowance: u64,
-}
+pub struct Spent;
 
-// An answer with the evaluations made so far, or that the next one would pass the allowance.
-#[derive(Clone, Copy)]
-pub struct Reply {
-    pub answer: Answer,
-    pub evaluations: u64,
-    pub spent: bool,
-}
-
-// Where the rounds stand: the table's shape, and the evaluations.
-#[derive(Clone, Copy)]
-pub struct Stand {
-    pub shape: Shape,
-    pub budget: Budget,
-}
-
-// What the analysis of a table answers: a refusal, with number 0 where there is none; the tasks; the verdict, whether every task has a bound;
-// the evaluations; and for each task its value in the final vector, and whether it has a bound. The last two are told by `answer` alone.
+// What the analysis of a table answers: a refusal, if it is refused; the tasks; the verdict, whether every task has a bound; the evaluations;
+// and for each task its value in the final vector, and whether it has a bound. The last two are told by `answer` alone.
 #[derive(Clone, Copy)]
 pub struct Analysis {
-    pub refusal: Refusal,
+    pub refusal: Option<Refusal>,
     pub tasks: usize,
     pub verdict: bool,
     pub evaluations: u64,
@@ -66,13 +41,11 @@ pub struct Analysis {
 fn told(verdict: bool, bound: bool, value: u64) -> TaskAnswer
     ensures { result ≡ told verdict bound value }
 {
-    if bound {
-        if verdict {
-            return TaskAnswer::Bound(value);
-        }
-        return TaskAnswer::Conditional(value);
+    match (verdict, bound) {
+        (true, true) => TaskAnswer::Bound(value),
+        (false, true) => TaskAnswer::Conditional(value),
+        (_, false) => TaskAnswer::Nothing,
     }
-    TaskAnswer::Nothing
 }
 
 impl Analysis {
@@ -92,7 +65,7 @@ fn refused(refusal: Refusal) -> Analysis
     ensures { result ≡ refused_by refusal }
 {
     Analysis {
-        refusal,
+        refusal: Some(refusal),
         tasks: 0,
         verdict: false,
         evaluations: 0,
@@ -102,43 +75,32 @@ fn refused(refusal: Refusal) -> Analysis
 }
 
 // The analysis of an accepted table under the settings that it names.
-fn analyse_accepted(bytes: &[u8], shape: Shape, allowance: u64) -> Analysis
-    requires { WellFormed bytes.now shape }
-    ensures { result ≡ analysed_as (Accepted shape) bytes.now allowance }
+fn analyse_table(table: &Table, allowance: u64) -> Analysis
+    ensures { result ≡ analysed_as (Ok table.now.shape) table.now.bytes.now allowance }
 {
-    let tasks = shape.tasks;
-    let settings = starts::own_settings(bytes, tasks);
-    let ceilings = equations::ceilings(bytes, shape);
+    let tasks = table.shape.tasks;
+    let settings = starts::own_settings(table);
+    let ceilings = equations::ceilings(table);
+    let rounds = Rounds {
+        equations: Equations {
+            table: *table,
+            settings: &settings,
+            ceilings: &ceilings,
+        },
+        allowance,
+    };
     let mut values = [0u64; 32];
     let mut bounds = [false; 32];
-    let stand = Stand {
-        shape,
-        budget: Budget { made: 0, allowance },
-    };
-    let round = starts::settle(
-        bytes,
-        &settings,
-        &ceilings,
-        &mut values[..tasks],
-        &mut bounds,
-        stand,
-    );
-    if round.spent {
-        return refused(Refusal {
-            number: 8,
-            place: 0,
-        });
-    }
-    Analysis {
-        refusal: Refusal {
-            number: 0,
-            place: 0,
+    match rounds.settle(&mut values[..tasks], &mut bounds) {
+        Ok(evaluations) => Analysis {
+            refusal: None,
+            tasks,
+            verdict: turns::all_bounded(&bounds[..tasks]),
+            evaluations,
+            values,
+            bounds,
         },
-        tasks,
-        verdict: turns::all_bounded(&bounds, tasks),
-        evaluations: round.evaluations,
-        values,
-        bounds,
+        Err(Spent) => refused(Why::Allowance.at(0)),
     }
 }
 
@@ -146,8 +108,8 @@ fn analyse_accepted(bytes: &[u8], shape: Shape, allowance: u64) -> Analysis
 pub fn analyse(bytes: &[u8], allowance: u64) -> Analysis
     ensures { result ≡ analysed bytes.now allowance }
 {
-    match table::read(bytes) {
-        Reading::Accepted(shape) => analyse_accepted(bytes, shape, allowance),
-        Reading::Refused(refusal) => refused(refusal),
+    match Table::read(bytes) {
+        Ok(table) => analyse_table(&table, allowance),
+        Err(refusal) => refused(refusal),
     }
 }

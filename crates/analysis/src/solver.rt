@@ -1,63 +1,54 @@
 // One task: its right side from C + S on, until it meets the length or passes the deadline.
-ghost use Rattle.std.specs.Prelude.{◌≤◌, ◌<◌};
+ghost use Rattle.std.specs.Prelude.{◌≤◌};
 ghost use Rattle.rounds.specs.Rounds.{reply};
-ghost use Rattle.equations.specs.View.{view_of};
-ghost use Rattle.equations.specs.Equations.{system_of};
+ghost use Rattle.analysis.specs.Seen.{equations_in};
 ghost use Rattle.analysis.specs.Solving.{Solvable, Solved};
 
-use crate::{Answer, Budget, Reply};
-use equations::{Query, right_side};
-use table::word_at;
+use crate::Spent;
+use crate::turns::Rounds;
+use equations::{KeptUses, Query};
 
-// The task of the query, with the uses that are kept of it, under a vector.
-pub fn solve(
-    bytes: &[u8],
-    settings: &[u8; 32],
-    vector: &[u64],
-    kept: &[u64; 65],
-    query: Query,
-    budget: Budget,
-) -> Reply
-    requires solvable { Solvable bytes.now settings.now vector.now kept.now query }
-    requires made_le_allowance { budget.made ≤ budget.allowance }
-    ensures { Solved budget.allowance (reply (system_of (view_of bytes.now query.shape settings.now)) query.task vector.now budget.made) result }
-{
-    let at = 20 * query.task;
-    let allowance = budget.allowance;
-    let deadline = word_at(bytes, at + 12) as u64;
-    let mut t = word_at(bytes, at + 4) as u64 + word_at(bytes, at + 8) as u64;
-    let mut made = budget.made;
-    if deadline < t {
-        return Reply {
-            answer: Answer::Nothing,
-            evaluations: made,
-            spent: false,
-        };
-    }
-    loop {
-        if allowance <= made {
-            return Reply {
-                answer: Answer::Nothing,
-                evaluations: made,
-                spent: true,
-            };
+// What the solver answers for a task under a vector: its bound, if it has one; and the evaluations made so far.
+#[derive(Clone, Copy)]
+pub struct Reply {
+    pub bound: Option<u64>,
+    pub evaluations: u64,
+}
+
+impl<'a> Rounds<'a> {
+    // The task of the query, with the uses that are kept of it, under a vector, with so many evaluations made.
+    pub fn solve(
+        &self,
+        vector: &[u64],
+        kept: &KeptUses,
+        query: Query,
+        made: u64,
+    ) -> Result<Reply, Spent>
+        requires solvable { Solvable self.now.equations vector.now kept.now query }
+        requires made_le_allowance { made ≤ self.now.allowance }
+        ensures { Solved self.now.allowance (reply (equations_in self.now.equations) query.task vector.now made) result }
+    {
+        let task = self.equations.table.task(query.task);
+        let deadline = u64::from(task.deadline);
+        let mut t = u64::from(task.run) + u64::from(task.sleep);
+        let mut evaluations = made;
+        while t <= deadline {
+            if self.allowance <= evaluations {
+                return Err(Spent);
+            }
+            let side = self.equations.right_side(vector, kept, query, t);
+            evaluations += 1;
+            if side == t {
+                return Ok(Reply {
+                    bound: Some(t),
+                    evaluations,
+                });
+            }
+            t = side;
         }
-        let side = right_side(bytes, settings, vector, kept, query, t);
-        made += 1;
-        if side == t {
-            return Reply {
-                answer: Answer::Bound(t),
-                evaluations: made,
-                spent: false,
-            };
-        }
-        if deadline < side {
-            return Reply {
-                answer: Answer::Nothing,
-                evaluations: made,
-                spent: false,
-            };
-        }
-        t = side;
+        Ok(Reply {
+            bound: None,
+            evaluations,
+        })
     }
 }

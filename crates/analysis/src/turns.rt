@@ -1,146 +1,92 @@
 // Rounds over the tasks by falling priority, a smaller bound replacing the value at once.
-ghost use Rattle.std.specs.Prelude.{◌≡◌, ◌≤◌, ◌<◌, get_or, length, false};
-ghost use Rattle.searches.specs.Searches.{all};
+ghost use Rattle.std.specs.Prelude.{◌≡◌, ◌≤◌, ◌<◌, length};
+ghost use Rattle.std.specs.List.{list_all};
 ghost use Rattle.rounds.specs.OnWay.{OnWay};
 ghost use Rattle.rounds.specs.Rounds.{begin};
-ghost use Rattle.equations.specs.View.{view_of};
-ghost use Rattle.equations.specs.Equations.{system_of};
-ghost use Rattle.analysis.specs.Solving.{is_bound};
-ghost use Rattle.analysis.specs.Rounding.{Lowers, Listed, Marks, Rounded, Settled, progress};
+ghost use Rattle.analysis.specs.Seen.{equations_in};
+ghost use Rattle.analysis.specs.Rounding.{Lowers, Marks, Rounded, Settled, progress};
 
-use crate::solver::solve;
-use crate::{Answer, Budget, Stand};
-use equations::asked;
+use crate::Spent;
+use equations::{Equations, KeptUses};
 
-// What a round leaves besides the vector: the evaluations so far, whether a value changed, or that the allowance was spent.
+// What the rounds are about: the equations, and how many evaluations are allowed.
 #[derive(Clone, Copy)]
-pub struct Round {
-    pub evaluations: u64,
-    pub changed: bool,
-    pub spent: bool,
+pub struct Rounds<'a> {
+    pub equations: Equations<'a>,
+    pub allowance: u64,
 }
 
-// Whether an answer is a bound.
-fn is_bound(answer: Answer) -> bool
-    ensures { result ≡ is_bound answer }
+// Whether a round changed a value, with the evaluations so far.
+#[derive(Clone, Copy)]
+pub enum Round {
+    Changed(u64),
+    Still(u64),
+}
+
+// Whether each of some tasks is marked as one with a bound.
+pub fn all_bounded(bounds: &[bool]) -> bool
+    ensures { result ≡ list_all (λ b. b) bounds.now }
 {
-    match answer {
-        Answer::Bound(_) => true,
-        Answer::Nothing => false,
-    }
+    bounds.iter().all(|bound| *bound)
 }
 
-// Whether each of the tasks is marked as one with a bound.
-pub fn all_bounded(bounds: &[bool; 32], tasks: usize) -> bool
-    requires { tasks ≤ 32 }
-    ensures { result ≡ all (λ i. get_or bounds.now i false) tasks }
-{
-    let mut all = true;
-    let mut i = 0;
-    while i < tasks {
-        all &= bounds[i];
-        i += 1;
-    }
-    all
-}
-
-// A smaller bound replaces the value at a place. The flag is raised where it does.
-fn lower(vector: &mut [u64], i: usize, answer: Answer, changed: bool) -> bool
+// A smaller bound replaces the value at a place. Answers whether it does.
+fn lower(vector: &mut [u64], i: usize, bound: Option<u64>) -> bool
     requires { i < length vector.old }
-    ensures { Lowers vector.old i answer changed vector.new result }
+    ensures { Lowers vector.old i bound vector.new result }
 {
-    let Answer::Bound(bound) = answer else {
-        return changed;
-    };
-    if bound < vector[i] {
-        vector[i] = bound;
-        return true;
-    }
-    changed
-}
-
-// A round: a turn for each task, by falling priority. It also marks which tasks have a bound.
-pub fn one_round(
-    bytes: &[u8],
-    settings: &[u8; 32],
-    ceilings: &[u8; 32],
-    vector: &mut [u64],
-    bounds: &mut [bool; 32],
-    stand: Stand,
-) -> Round
-    requires listed { Listed bytes.now stand.shape ceilings.now }
-    requires on_way { OnWay (system_of (view_of bytes.now stand.shape settings.now)) vector.old }
-    requires made_le_allowance { stand.budget.made ≤ stand.budget.allowance }
-    requires marks { Marks stand.shape.tasks bounds.old }
-    ensures { Rounded stand.shape.tasks stand.budget.allowance (system_of (view_of bytes.now stand.shape settings.now)) (progress vector.old stand.budget.made) vector.new bounds.new result }
-{
-    let shape = stand.shape;
-    let tasks = shape.tasks;
-    let allowance = stand.budget.allowance;
-    let mut made = stand.budget.made;
-    let mut changed = false;
-    let mut kept = [0u64; 65];
-    let mut i = 0;
-    while i < tasks {
-        let query = asked(bytes, shape, settings, ceilings, &mut kept, i);
-        let reply = solve(
-            bytes,
-            settings,
-            vector,
-            &kept,
-            query,
-            Budget { made, allowance },
-        );
-        if reply.spent {
-            return Round {
-                evaluations: made,
-                changed,
-                spent: true,
-            };
+    match bound {
+        Some(bound) if bound < vector[i] => {
+            vector[i] = bound;
+            true
         }
-        made = reply.evaluations;
-        let answer = reply.answer;
-        bounds[i] = is_bound(answer);
-        changed = lower(vector, i, answer, changed);
-        i += 1;
-    }
-    Round {
-        evaluations: made,
-        changed,
-        spent: false,
+        _ => false,
     }
 }
 
-// Rounds from the deadlines until one changes nothing.
-pub fn all_rounds(
-    bytes: &[u8],
-    settings: &[u8; 32],
-    ceilings: &[u8; 32],
-    vector: &mut [u64],
-    bounds: &mut [bool; 32],
-    stand: Stand,
-) -> Round
-    requires listed { Listed bytes.now stand.shape ceilings.now }
-    requires made_value { progress vector.old stand.budget.made ≡ begin (system_of (view_of bytes.now stand.shape settings.now)) }
-    requires marks { Marks stand.shape.tasks bounds.old }
-    ensures { Settled stand.shape.tasks stand.budget.allowance (system_of (view_of bytes.now stand.shape settings.now)) vector.new bounds.new result }
-{
-    let shape = stand.shape;
-    let allowance = stand.budget.allowance;
-    let mut made = stand.budget.made;
-    loop {
-        let now = Stand {
-            shape,
-            budget: Budget { made, allowance },
-        };
-        let round = one_round(bytes, settings, ceilings, vector, bounds, now);
-        if round.spent {
-            return round;
+impl<'a> Rounds<'a> {
+    // A round: a turn for each task, by falling priority. It also marks which tasks have a bound.
+    pub fn one_round(
+        &self,
+        vector: &mut [u64],
+        bounds: &mut [bool; 32],
+        made: u64,
+    ) -> Result<Round, Spent>
+        requires on_way { OnWay (equations_in self.now.equations) vector.old }
+        requires made_le_allowance { made ≤ self.now.allowance }
+        requires marks { Marks self.now.equations.table.shape.tasks bounds.old }
+        ensures { Rounded self.now.equations.table.shape.tasks self.now.allowance (equations_in self.now.equations) (progress vector.old made)
+            vector.new bounds.new result }
+    {
+        let mut evaluations = made;
+        let mut changed = false;
+        let mut kept = KeptUses::new();
+        for i in 0..self.equations.table.shape.tasks {
+            let query = self.equations.asked(&mut kept, i);
+            let reply = self.solve(vector, &kept, query, evaluations)?;
+            evaluations = reply.evaluations;
+            bounds[i] = reply.bound.is_some();
+            changed |= lower(vector, i, reply.bound);
         }
-        if round.changed {
-            made = round.evaluations;
+        if changed {
+            Ok(Round::Changed(evaluations))
         } else {
-            return round;
+            Ok(Round::Still(evaluations))
+        }
+    }
+
+    // Rounds from the deadlines until one changes nothing. Answers the evaluations.
+    pub fn all_rounds(&self, vector: &mut [u64], bounds: &mut [bool; 32]) -> Result<u64, Spent>
+        requires at_deadlines { progress vector.old 0 ≡ begin (equations_in self.now.equations) }
+        requires marks { Marks self.now.equations.table.shape.tasks bounds.old }
+        ensures { Settled self.now.equations.table.shape.tasks self.now.allowance (equations_in self.now.equations) vector.new bounds.new result }
+    {
+        let mut made = 0;
+        loop {
+            match self.one_round(vector, bounds, made)? {
+                Round::Changed(evaluations) => made = evaluations,
+                Round::Still(evaluations) => return Ok(evaluations),
+            }
         }
     }
 }

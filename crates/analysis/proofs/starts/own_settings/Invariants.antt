@@ -1,5 +1,5 @@
--- The loops of `analysis::starts::own_settings`.
-use Prim.Native.Nat.{◌≤◌, ◌-◌}
+-- The loop of `analysis::starts::own_settings`.
+use Prim.Native.Nat.{◌-◌}
 use lib.ListN.{replicate}
 use mathlib.Core.List.{◌++◌}
 use mathlib.Core.Path.{◌≡◌}
@@ -8,7 +8,4 @@ use Rattle.analysis.proofs.Starting.{setting_of}
 use Rattle.analysis.proofs.starts.own_settings.Given as goal
 
 abbrev pub invariant-loop-i : goal.invariant-loop-i
-invariant-loop-i l = (l.i ≤ l.tasks) × (l.settings ≡ every (setting_of l.bytes) l.i 0 ++ replicate (32 - l.i) 0)
-
-abbrev pub decreases-loop-i : goal.decreases-loop-i
-decreases-loop-i l = l.tasks - l.i
+invariant-loop-i l = l.settings ≡ every (setting_of l.table.bytes.now) l.i 0 ++ replicate (32 - l.i) 0
