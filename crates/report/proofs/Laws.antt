@@ -1,26 +1,25 @@
 -- What is found of bytes is what the report is to say: of a refusal, and of an accepted table.
 use Prim.Native.Nat.{ℕ, ◌-◌, ◌≤◌, ◌<◌}
+use Rattle.std.specs.Prelude.{Ok, Err}
 use mathlib.Core.Path.{◌≡◌, sym, ap, ◌∙◌}
-use mathlib.Core.List.{List, ◌++◌}
+use mathlib.Core.List.{List}
 use native.Mathlib.Omega.{arith}
-use lib.ListN.{length, take, drop, replicate}
+use lib.ListN.{replicate}
 use lib.Seq.{take_at}
 use borrow.Author.Tests.{lt-ltb, le-ltb}
 use Rattle.searches.specs.Indexed.{every}
 use Rattle.searches.proofs.Indexed.{filled, length_every}
 use Rattle.table.specs.declared.Refusal.{Refusal}
 use Rattle.table.specs.declared.Shape.{Shape}
-use Rattle.table.specs.declared.Reading.{Reading}
-use Rattle.table.specs.declared.Reading.TheVariants.{Accepted, Refused}
-use Rattle.table.specs.Reading.{read_table}
+use Rattle.table.specs.declared.Why.TheVariants.{Rows}
+use Rattle.table.specs.Reading.{Reading, read_table}
 use Rattle.rounds.specs.Allowance.{Allowed, within, beyond, allowed}
 use Rattle.analysis.specs.declared.Analysis.{Analysis}
 use Rattle.analysis.specs.Analysing.{own_system, allowed_as, analysed_as, analysed}
 use Rattle.analysis.proofs.Replies.{tasks_most}
 use Rattle.report.specs.declared.Reported.{Reported}
-use Rattle.report.specs.declared.Row.{Row}
 use Rattle.report.specs.declared.finding.Found.{Found}
-use Rattle.report.specs.Reporting.{task_row, refused_by, summary, reported_as, reported, rows_after}
+use Rattle.report.specs.Reporting.{task_row, refused_by, summary, reported_as, reported}
 use Rattle.report.specs.Finding.{no_row, Finds}
 
 -- a refusal that the definition gives
@@ -32,17 +31,17 @@ refused_finds s allowance room f e q r =
     record { reply = q ∙ sym r; rows_are = rw none; tasks_most = omega arith; room_enough = omega arith }
 
 -- bytes that the reader refuses
-pub unread_finds : (s : List ℕ) (allowance room : ℕ) (f : Found) (e : Refusal) → read_table s ≡ Refused e → f.reported ≡ refused_by e
+pub unread_finds : (s : List ℕ) (allowance room : ℕ) (f : Found) (e : Refusal) → read_table s ≡ Err e → f.reported ≡ refused_by e
     → Finds s allowance room f
 unfolding reported_as
 unread_finds s allowance room f e read q = refused_finds s allowance room f e q (ap (λ (r : Reading). reported_as r s allowance room) read)
 
-module _ (s : List ℕ) (h : Shape) (read : read_table s ≡ Accepted h) (allowance room : ℕ) (f : Found) where
+module _ (s : List ℕ) (h : Shape) (read : read_table s ≡ Ok h) (allowance room : ℕ) (f : Found) where
   -- fewer lent rows than tasks
-  pub short_finds : room < h.tasks → f.reported ≡ refused_by (record { number = 9; place = 0 }) → Finds s allowance room f
+  pub short_finds : room < h.tasks → f.reported ≡ refused_by (record { why = Rows; place = 0 }) → Finds s allowance room f
   unfolding reported_as
   short_finds l q =
-      refused_finds s allowance room f (record { number = 9; place = 0 }) q
+      refused_finds s allowance room f (record { why = Rows; place = 0 }) q
       (ap (λ (r : Reading). reported_as r s allowance room) read ∙ rw (lt-ltb room h.tasks l))
 
   -- the analysis tells of the table's tasks, or of none
@@ -70,10 +69,3 @@ module _ (s : List ℕ) (h : Shape) (read : read_table s ≡ Accepted h) (allowa
         tasks_most = omega (arith, n, m, tasks_most s allowance);
         room_enough = omega (arith, n, m, tasks_within, l);
       }
-
--- what the rows are once those that were found are stored
-pub stored_after : (s : List ℕ) (allowance : ℕ) (rows : List Row) (f : Found) → Finds s allowance (length rows) f
-    → take f.reported.tasks f.rows ++ drop f.reported.tasks rows ≡ rows_after s allowance rows
-stored_after s allowance rows f k =
-    ap (λ (l : List Row). l ++ drop f.reported.tasks rows) k.rows_are
-    ∙ ap (λ (x : Reported). every (task_row s (analysed s allowance)) x.tasks 0 ++ drop x.tasks rows) k.reply

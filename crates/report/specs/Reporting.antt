@@ -1,11 +1,10 @@
 -- What a report answers on a table's bytes, and what it leaves in the rows that the host lends.
-use Rattle.std.specs.Prelude.{ℕ, false, cond, List, ◌++◌, ltb, length, drop}
+use Rattle.std.specs.Prelude.{ℕ, false, cond, List, ◌++◌, ltb, length, drop, Some, Ok, Err}
 use Rattle.searches.specs.Indexed.{every}
 use Rattle.table.specs.declared.Refusal.{Refusal}
-use Rattle.table.specs.declared.Reading.{Reading}
-use Rattle.table.specs.declared.Reading.TheVariants.{Accepted, Refused}
+use Rattle.table.specs.declared.Why.TheVariants.{Rows}
 use Rattle.table.specs.declared.Task.{Task}
-use Rattle.table.specs.Reading.{read_table}
+use Rattle.table.specs.Reading.{Reading, read_table}
 use Rattle.table.specs.WellFormed.{task_of}
 use Rattle.analysis.specs.declared.Analysis.{Analysis}
 use Rattle.analysis.specs.declared.TaskAnswer.{TaskAnswer}
@@ -41,7 +40,7 @@ task_row s a i = row_of (task_of s i) (answer_at a i)
 
 -- a refusal: no tasks, no verdict, no evaluations
 abbrev pub refused_by : Refusal → Reported
-refused_by f = record { refusal = f; tasks = 0; verdict = false; evaluations = 0 }
+refused_by f = record { refusal = Some f; tasks = 0; verdict = false; evaluations = 0 }
 
 -- what an analysis answers of the table as a whole
 abbrev pub summary : Analysis → Reported
@@ -50,8 +49,8 @@ summary a = record { refusal = a.refusal; tasks = a.tasks; verdict = a.verdict; 
 -- by what the bytes are read as: refused with 1 to 7; then with 9 where fewer rows are lent than there are tasks; else what the analysis answers,
 -- which may be 8
 unfoldable pub reported_as : Reading → List ℕ → ℕ → ℕ → Reported
-reported_as (Refused f) s allowance room = refused_by f
-reported_as (Accepted h) s allowance room = cond (ltb room h.tasks) (refused_by (record { number = 9; place = 0 })) (summary (analysed s allowance))
+reported_as (Err f) s allowance room = refused_by f
+reported_as (Ok h) s allowance room = cond (ltb room h.tasks) (refused_by (record { why = Rows; place = 0 })) (summary (analysed s allowance))
 
 -- the report on a table's bytes under an allowance of evaluations, where so many rows are lent
 abbrev pub reported : List ℕ → ℕ → ℕ → Reported

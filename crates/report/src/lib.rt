@@ -1,7 +1,7 @@
 // The report on a table: its analysis, with a row for each task in a list that the host lends.
 #![tactic(auto)]
 
-ghost use Rattle.std.specs.Prelude.{◌≡◌, ◌++◌, ◌≤◌, length, take, drop};
+ghost use Rattle.std.specs.Prelude.{◌≡◌, length};
 ghost use Rattle.report.specs.Reporting.{reported, rows_after};
 
 mod finding;
@@ -10,7 +10,7 @@ use table::Refusal;
 
 // The row of a task: its priority; the number of its answer, 0 for none, 1 for a bound, 2 for a conditional value; the value, or 0; its deadline.
 #[repr(C)]
-#[derive(Clone, Copy)]
+#[derive(Clone, Copy, Default)]
 pub struct Row {
     pub priority: u8,
     pub answer: u8,
@@ -18,25 +18,13 @@ pub struct Row {
     pub deadline: u32,
 }
 
-// What a report answers: a refusal, with number 0 where there is none; the tasks, each of which has its row; the verdict; the evaluations.
+// What a report answers: a refusal, if it is refused; the tasks, each of which has its row; the verdict; the evaluations.
 #[derive(Clone, Copy)]
 pub struct Reported {
-    pub refusal: Refusal,
+    pub refusal: Option<Refusal>,
     pub tasks: usize,
     pub verdict: bool,
     pub evaluations: u64,
-}
-
-// Stores the first rows of an array into the lent ones. Later rows keep their values.
-fn put_rows(rows: &mut [Row], from: [Row; 32], count: usize)
-    requires { (count ≤ 32) × (count ≤ length rows.old) }
-    ensures { rows.new ≡ take count «from» ++ drop count rows.old }
-{
-    let mut i = 0;
-    while i < count {
-        rows[i] = from[i];
-        i += 1;
-    }
 }
 
 // Reports on a table within an allowance of evaluations: the first rows are the tasks', in table order, and later rows keep their values.
@@ -46,8 +34,7 @@ pub fn report(bytes: &[u8], allowance: u64, rows: &mut [Row]) -> Reported
         × (rows.new ≡ rows_after bytes.now allowance rows.old) }
 {
     let found = finding::find(bytes, allowance, rows.len());
-    let from = finding::rows_in(found);
-    let count = finding::count_in(found);
-    put_rows(rows, from, count);
-    finding::reported_in(found)
+    let tasks = found.reported.tasks;
+    rows[..tasks].copy_from_slice(&found.rows[..tasks]);
+    found.reported
 }

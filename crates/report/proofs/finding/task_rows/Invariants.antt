@@ -1,5 +1,4 @@
--- The loops of `report::finding::task_rows`.
-use Prim.Native.Nat.{◌≤◌, ◌-◌}
+-- The loop of `report::finding::task_rows`.
 use mathlib.Core.Path.{◌≡◌}
 use Rattle.searches.proofs.Indexed.{filled}
 use Rattle.report.specs.Reporting.{task_row}
@@ -7,7 +6,4 @@ use Rattle.report.specs.Finding.{no_row}
 use Rattle.report.proofs.finding.task_rows.Given as goal
 
 abbrev pub invariant-loop-i : goal.invariant-loop-i
-invariant-loop-i l = (l.i ≤ l.tasks) × (l.rows ≡ filled (task_row l.bytes l.analysis) 32 no_row l.i)
-
-abbrev pub decreases-loop-i : goal.decreases-loop-i
-decreases-loop-i l = l.tasks - l.i
+invariant-loop-i l = l.rows ≡ filled (task_row l.bytes l.analysis) 32 no_row l.i
