@@ -7,31 +7,29 @@ use native.Mathlib.Decide.{dec_le}
 use native.Mathlib.Nat.{mul-suc, pow-zero, pow-suc}
 use native.Mathlib.Numerals.{add-one}
 use native.Mathlib.Omega.{arith}
-use borrow.Author.Tests.{lt-ltb, le-ltb, le-leb, eq-eqb, ne_eqb, eqb-true}
+use borrow.Author.Tests.{lt-ltb, le-ltb, le-leb, eq-eqb, ne_eqb}
 use lib.Dec.{eqb}
-use lib.ListN.{length, take, drop, set, get_or, length-append, drop_of_length-le}
-use lib.Seq.{drop-cons, take_all, take-length, paste, paste-suc}
-use Rattle.searches.proofs.Testing.{impossible}
+use lib.ListN.{length, take, get_or, length-append}
+use lib.Pointwise.{pointwise}
+use Rattle.std.specs.List.{fold, prefix_len, take_while}
+use Rattle.std.proofs.lemmas.List.Sums.{prefix_len-le-length}
+use lib.Seq.{take_all, length-take-le}
 use Rattle.words.specs.Text.{text, digits_in, decimal, joined}
 use Rattle.words.specs.Finding.{lead, in_class, digit, same, is_number, with_digit, value_on, value_of, printable, printables, found_text}
-use Rattle.words.specs.Writing.{Put}
 
 -- ---- a run of bytes
 
--- a byte that has the property is passed
-pub lead_on : (p : ℕ → Bool) (s : List ℕ) (i : ℕ) → i < length s → p (get_or s i 0) ≡ true → i + lead p (drop i s) ≡ i + 1 + lead p (drop (i + 1) s)
+-- a run is the prefix that has the property
+prefix_lead : (p : ℕ → Bool) (s : List ℕ) → prefix_len p s ≡ lead p s
 unfolding lead
-lead_on p s i h e = rw (add-one, drop-cons s i 0, e) (omega arith)
+prefix_lead p [] = refl
+prefix_lead p (b ∷ s) =
+    let one : 1 + prefix_len p s ≡ suc (prefix_len p s) = omega arith in
+    ap (λ (n : ℕ). cond (p b) n 0) (one ∙ ap suc (prefix_lead p s))
 
--- a byte that has it not ends the run
-pub lead_stop : (p : ℕ → Bool) (s : List ℕ) (i : ℕ) → i < length s → p (get_or s i 0) ≡ false → i + lead p (drop i s) ≡ i
-unfolding lead
-lead_stop p s i h e = rw (drop-cons s i 0, e) (omega arith)
-
--- the text's end ends the run
-pub lead_end : (p : ℕ → Bool) (s : List ℕ) (i : ℕ) → length s ≤ i → i + lead p (drop i s) ≡ i
-unfolding lead
-lead_end p s i h = rw (drop_of_length-le s {i = i} h) (omega arith)
+-- a run is as long as what an iterator takes
+pub lead_taken : (p : ℕ → Bool) (s : List ℕ) → length (take_while p s) ≡ lead p s
+lead_taken p s = length-take-le (prefix_len p s) s (prefix_len-le-length p s) ∙ prefix_lead p s
 
 -- a run that is a whole text goes on in the text after it
 pub lead_all : (p : ℕ → Bool) (t rest : List ℕ) → lead p t ≡ length t → lead p (t ++ rest) ≡ length t + lead p rest
@@ -46,21 +44,13 @@ lead_all p (b ∷ t) rest e = go (p b) e (lead_all p t rest)
 
 -- ---- the same texts
 
--- where the bytes at a place are the same, the rest tells
-pub same_next : (s t : List ℕ) (i : ℕ) → i < length s → i < length t → get_or s i 0 ≡ get_or t i 0
-    → same (drop i s) (drop i t) ≡ same (drop (i + 1) s) (drop (i + 1) t)
+-- as the comparison of slices tells
+pub same_slices : (s t : List ℕ) → pointwise eqb s t ≡ same s t
 unfolding same
-same_next s t i h g e = rw (add-one, drop-cons s i 0, drop-cons t i 0, eq-eqb (get_or s i 0) (get_or t i 0) e)
-
--- where they differ, the texts do
-pub same_differs : (s t : List ℕ) (i : ℕ) → i < length s → i < length t → (get_or s i 0 ≡ get_or t i 0 → ⊥) → same (drop i s) (drop i t) ≡ false
-unfolding same
-same_differs s t i h g e = rw (drop-cons s i 0, drop-cons t i 0, ne_eqb (get_or s i 0) (get_or t i 0) e)
-
--- past the ends nothing is left that could differ
-pub same_end : (s t : List ℕ) (i : ℕ) → length s ≤ i → length t ≤ i → same (drop i s) (drop i t) ≡ true
-unfolding same
-same_end s t i h g = rw (drop_of_length-le s {i = i} h, drop_of_length-le t {i = i} g)
+same_slices [] [] = refl
+same_slices [] (b ∷ t) = refl
+same_slices (a ∷ s) [] = refl
+same_slices (a ∷ s) (b ∷ t) = ap (λ (x : Bool). eqb a b && x) (same_slices s t)
 
 -- a text is the same as itself
 pub same_refl : (t : List ℕ) → same t t ≡ true
@@ -68,37 +58,13 @@ unfolding same
 same_refl [] = refl
 same_refl (b ∷ t) = rw (eq-eqb b b refl) (same_refl t)
 
--- texts that test the same are equal
-pub same_is : (s t : List ℕ) → same s t ≡ true → s ≡ t
-unfolding same
-same_is [] [] e = refl
-same_is [] (b ∷ t) e = absurd (impossible cc)
-same_is (a ∷ s) [] e = absurd (impossible cc)
-same_is (a ∷ s) (b ∷ t) e = go (eqb a b) refl e (same_is s t)
-  where
-    go : (x : Bool) → eqb a b ≡ x → x && same s t ≡ true → (same s t ≡ true → s ≡ t) → a ∷ s ≡ b ∷ t
-    go true q f rest = ap₂ (λ (c : ℕ) (r : List ℕ). c ∷ r) (eqb-true a b q) (rest f)
-    go false q f rest = absurd (impossible cc)
-
--- texts that differ in length differ
-pub same_sized : (s t : List ℕ) → (length s ≡ length t → ⊥) → same s t ≡ false
-same_sized s t h = go (same s t) refl
-  where
-    go : (x : Bool) → same s t ≡ x → x ≡ false
-    go true q = absurd (h (ap length (same_is s t q)))
-    go false q = refl
-
 -- ---- the value of digits
 
--- the next digit is taken into the value
-pub value_next : (v : ℕ) (w : List ℕ) (i : ℕ) → i < length w → value_on v (drop i w) ≡ value_on (with_digit v (get_or w i 0)) (drop (i + 1) w)
+-- the digits are taken one after the other
+pub value_folds : (v : ℕ) (w : List ℕ) → fold with_digit v w ≡ value_on v w
 unfolding value_on
-value_next v w i h = rw (add-one, drop-cons w i 0)
-
--- past the end the value is whole
-pub value_end : (v : ℕ) (w : List ℕ) (i : ℕ) → length w ≤ i → value_on v (drop i w) ≡ v
-unfolding value_on
-value_end v w i h = rw (drop_of_length-le w {i = i} h)
+value_folds v [] = refl
+value_folds v (b ∷ w) = value_folds (with_digit v b) w
 
 -- the digits of two texts are taken one text after the other
 pub value_append : (v : ℕ) (s t : List ℕ) → value_on v (s ++ t) ≡ value_on (value_on v s) t
@@ -229,30 +195,21 @@ unfolding printables
 printables_length [] = refl
 printables_length (b ∷ w) = ap suc (printables_length w)
 
--- each byte by itself
-pub printables_at : (w : List ℕ) (i : ℕ) → i < length w → get_or (printables w) i 0 ≡ printable (get_or w i 0)
+-- none
+pub printables_none : printables [] ≡ []
 unfolding printables
-printables_at [] i h = absurd (omega arith)
-printables_at (b ∷ w) zero h = refl
-printables_at (b ∷ w) (suc i) h = printables_at w i (omega arith)
+printables_none = refl
 
--- one byte more is put as it may be printed
-pub printed_more : (o w now : List ℕ) (at i b : ℕ) → at + length w ≤ length o → i < length w → now ≡ paste o at (printables w) i
-    → b ≡ printable (get_or w i 0) → set now (at + i) b ≡ paste o at (printables w) (i + 1)
-printed_more o w now at i b l h e f =
-    ap₂ (λ (n : List ℕ) (x : ℕ). set n (at + i) x) e (f ∙ sym (printables_at w i h))
-    ∙ paste-suc o at (printables w) i 0 (omega arith) (omega (arith, printables_length w)) ∙ ap (λ (k : ℕ). paste o at (printables w) k) (sym (add-one i))
+-- one byte more, with the number as a successor
+printables_suc : (w : List ℕ) (i : ℕ) → i < length w → printables (take (suc i) w) ≡ printables (take i w) ++ (printable (get_or w i 0) ∷ [])
+unfolding printables
+printables_suc [] i h = absurd (omega arith)
+printables_suc (b ∷ w) zero h = refl
+printables_suc (b ∷ w) (suc i) h = ap (λ (x : List ℕ). printable b ∷ x) (printables_suc w i (omega arith))
 
--- all bytes are put
-pub printed_all : (o w now : List ℕ) (at i : ℕ) → i ≡ length w → now ≡ paste o at (printables w) i → Put o at (printables w) now (at + i)
-printed_all o w now at i z e =
-    let y : i ≡ length (printables w) = z ∙ sym (printables_length w) in
-    record {
-      end = ap (λ (k : ℕ). at + k) y;
-      holds = e ∙ ap (λ (k : ℕ). paste o at (printables w) k) y
-          ∙ ap (λ (x : List ℕ). (take at o ++ x) ++ drop (at + length (printables w)) o) (take-length (printables w))
-          ∙ append_assoc (take at o) (printables w) (drop (at + length (printables w)) o);
-    }
+-- one byte more
+pub printables_more : (w : List ℕ) (i : ℕ) → i < length w → printables (take (i + 1) w) ≡ printables (take i w) ++ (printable (get_or w i 0) ∷ [])
+printables_more w i h = rw add-one (printables_suc w i h)
 
 -- ---- what was found where a word was expected
 

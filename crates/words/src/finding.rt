@@ -1,74 +1,68 @@
 // Where words stand in a text, and what numbers they are.
-ghost use Rattle.std.specs.Prelude.{◌≡◌, ◌-◌, ◌≤◌, length};
+ghost use Rattle.std.specs.Prelude.{◌≡◌, ◌-◌, ◌≤◌, length, drop, take_while};
+ghost use Rattle.words.specs.Classes.{class_number};
 ghost use Rattle.words.specs.Finding.{in_class, run_end, same, with_digit, value_of};
 
-// Whether a byte is of a class: 0 blanks, 1 what a word has, 2 what a line has, 3 digits.
-fn is_in(class: u8, byte: u8) -> bool
-    ensures { result ≡ in_class class byte }
+// A class of bytes: blanks, what a word has, what a line has, digits.
+#[derive(Clone, Copy)]
+pub enum Class {
+    Blank,
+    Word,
+    Line,
+    Digit,
+}
+
+// Whether a byte is of a class.
+fn is_in(class: Class, byte: u8) -> bool
+    ensures { result ≡ in_class (class_number class) byte }
 {
-    let blank = (byte == 32) | (byte == 9) | (byte == 13);
     match class {
-        0 => blank,
-        1 => !(blank | (byte == 10) | (byte == 35)),
-        2 => byte != 10,
-        _ => (48 <= byte) & (byte <= 57),
+        Class::Blank => matches!(byte, b' ' | b'\t' | b'\r'),
+        Class::Word => !matches!(byte, b' ' | b'\t' | b'\r' | b'\n' | b'#'),
+        Class::Line => byte != b'\n',
+        Class::Digit => byte.is_ascii_digit(),
     }
 }
 
+// How many bytes of a class stand from a place on.
+fn passed(text: &[u8], at: usize, class: Class) -> usize
+    ensures value { result ≡ length (take_while (in_class (class_number class)) (drop at text.now)) }
+    ensures upper_bound { result ≤ length text.now - at }
+{
+    text.iter()
+        .skip(at)
+        .take_while(|byte| is_in(class, **byte))
+        .count()
+}
+
 // The first place, from a place on, whose byte is not of a class, or the end of the text.
-pub fn run_end(text: &[u8], at: usize, class: u8) -> usize
-    ensures value { result ≡ run_end text.now at class }
+pub fn run_end(text: &[u8], at: usize, class: Class) -> usize
+    ensures value { result ≡ run_end text.now at (class_number class) }
     ensures upper_bound { at ≤ length text.now → result ≤ length text.now }
 {
-    let mut i = at;
-    while i < text.len() {
-        if !is_in(class, text[i]) {
-            return i;
-        }
-        i += 1;
-    }
-    i
+    at + passed(text, at, class)
 }
 
 // Whether two texts are the same.
 pub fn same(left: &[u8], right: &[u8]) -> bool
     ensures { result ≡ same left.now right.now }
 {
-    if left.len() != right.len() {
-        return false;
-    }
-    let mut i = 0;
-    while i < left.len() {
-        if left[i] != right[i] {
-            return false;
-        }
-        i += 1;
-    }
-    true
+    left == right
 }
 
 // A number so far, and its next digit.
 fn with_digit(value: u32, byte: u8) -> u32
     ensures { result ≡ with_digit value byte }
 {
-    if 1000000 < value {
+    if value > 1_000_000 {
         return value;
     }
-    if byte < 48 {
-        return 10 * value;
-    }
-    10 * value + (byte - 48) as u32
+    10 * value + u32::from(byte.saturating_sub(b'0'))
 }
 
 // The value of a number; for one above 1,000,000, some number above that.
 pub fn value(word: &[u8]) -> u32
     ensures { result ≡ value_of word.now }
 {
-    let mut value = 0;
-    let mut i = 0;
-    while i < word.len() {
-        value = with_digit(value, word[i]);
-        i += 1;
-    }
-    value
+    word.iter().fold(0, |value, byte| with_digit(value, *byte))
 }

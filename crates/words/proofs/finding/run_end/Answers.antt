@@ -1,29 +1,10 @@
 -- What is left of `words::finding::run_end`.
-use mathlib.Core.Path.{sym, ◌∙◌}
-use native.Mathlib.Omega.{arith}
+use Rattle.std.proofs.Common.{◌+◌, ◌∙◌, ap, ℕ, drop}
 use Rattle.words.specs.Finding.{in_class}
-use Rattle.words.proofs.Words.{lead_on, lead_stop, lead_end}
+use Rattle.words.specs.Classes.{class_number}
+use Rattle.words.proofs.Words.{lead_taken}
 use Rattle.words.proofs.finding.run_end.Goals as goal
 
-pub returns-then-not-is_in : goal.returns-then-not-is_in
-returns-then-not-is_in c =
-    let here = c.loop-i in
-    let other = sym c.is_in.ensures ∙ c.if-not-is_in.true in
-    record {
-      value = sym (lead_stop (in_class c.args.class) c.args.text.now here.i c.loop-i-test.true other) ∙ here.invariant.0;
-      upper_bound = here.invariant.1;
-    }
-
-pub loop-i-preserved : goal.loop-i-preserved
-loop-i-preserved c =
-    let here = c.loop-i in
-    let more = sym c.is_in.ensures ∙ c.if-not-is_in.false in
-    (sym (lead_on (in_class c.args.class) c.args.text.now here.i c.loop-i-test.true more) ∙ here.invariant.0, λ l. omega arith)
-
-pub returns : goal.returns
-returns c =
-    let here = c.loop-i in
-    record {
-      value = sym (lead_end (in_class c.args.class) c.args.text.now here.i c.loop-i-test.false) ∙ here.invariant.0;
-      upper_bound = here.invariant.1;
-    }
+pub returns-clause-value : goal.returns-clause-value
+returns-clause-value c =
+    ap (λ (n : ℕ). c.args.at + n) (c.passed.ensures.value ∙ lead_taken (in_class (class_number c.args.class)) (drop c.args.at c.args.text.now))
