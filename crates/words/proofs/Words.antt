@@ -14,7 +14,10 @@ use lib.Pointwise.{pointwise}
 use Rattle.std.specs.List.{fold, prefix_len, take_while}
 use Rattle.std.proofs.lemmas.List.Sums.{prefix_len-le-length}
 use lib.Seq.{take_all, length-take-le}
-use Rattle.words.specs.Text.{text, digits_in, decimal, joined}
+use Rattle.table.specs.declared.Refusal.{Refusal}
+use Rattle.table.specs.Replies.{why_number}
+use Rattle.words.specs.Text.{text, digits_in, decimal, labelled, newline, joined}
+use Rattle.words.specs.Refusing.{refusal_line}
 use Rattle.words.specs.Finding.{lead, in_class, digit, same, is_number, with_digit, value_on, value_of, printable, printables, found_text}
 
 -- ---- a run of bytes
@@ -224,3 +227,26 @@ found_whole w e l = rw (ne_eqb (length w) 0 e, le-ltb 24 (length w) l) (append-n
 -- a word whose front is shown
 pub found_front : (w : List ℕ) → 24 < length w → found_text w ≡ printables (take 24 w) ++ text "..."
 found_front w l = rw (ne_eqb (length w) 0 (λ e. omega arith), lt-ltb 24 (length w) l)
+
+-- ---- how long texts are at most
+
+-- a word and a number
+pub labelled_few : (label : List ℕ) (n : ℕ) → length (labelled label n) ≤ length label + 20
+labelled_few label n = omega (arith, length-append label (decimal n), decimal_few n)
+
+-- what was found
+pub found_few : (w : List ℕ) → length (found_text w) ≤ 27
+found_few w = go (dec_le (length w) 0) (dec_le (length w) 24)
+  where
+    go : Dec (length w ≤ 0) → Dec (length w ≤ 24) → length (found_text w) ≤ 27
+    go (yes e) d = rw (found_none w (omega arith)) (omega arith)
+    go (no s) (yes l) = rw (found_whole w (λ e. s (omega arith)) l, printables_length w) (omega arith)
+    go (no s) (no l) =
+        rw (found_front w (omega arith)) (omega (arith, length-append (printables (take 24 w)) (text "..."), printables_length (take 24 w), length-take-le 24 w (omega arith)))
+
+-- the line of a refusal
+pub refusal_few : (f : Refusal) → length (refusal_line f) ≤ 64
+refusal_few f =
+    let first = labelled (text "refused ") (why_number f.why) in
+    let second = labelled (text " at ") f.place in
+    omega (arith, length-append first (second ++ newline), length-append second newline, labelled_few (text "refused ") (why_number f.why), labelled_few (text " at ") f.place)

@@ -105,7 +105,7 @@ impl<'a> Page<'a> {
         requires { length (refusal_line refusal) ≤ room self.old }
         ensures { Puts self.old (refusal_line refusal) self.new }
     {
-        self.number(b"refused ", u64::from(refusal.number));
+        self.number(b"refused ", u64::from(refusal.why.number()));
         self.number(b" at ", refusal.place as u64);
         self.text(b"\n");
     }
