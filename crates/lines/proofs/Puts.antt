@@ -1,22 +1,28 @@
--- The lines of the tasks, put one after the other.
-use Prim.Native.Nat.{ℕ, ◌+◌, ◌≤◌}
-use mathlib.Core.List.{List}
-use native.Mathlib.Numerals.{add-one}
-use lib.ListN.{length}
+-- The lines of the tasks, one after the other.
+use Rattle.std.proofs.Common.{◌≡◌, ℕ, zero, suc, ◌+◌, ◌*◌, ◌≤◌, ◌<◌, List, [], ◌++◌, length, refl, arith, add-one, length-append}
+use native.Mathlib.Nat.{mul-suc}
+use Rattle.table.specs.declared.Task.{Task}
 use Rattle.table.specs.WellFormed.{task_of}
 use Rattle.analysis.specs.declared.Analysis.{Analysis}
+use Rattle.analysis.specs.declared.TaskAnswer.{TaskAnswer}
+use Rattle.analysis.specs.declared.TaskAnswer.TheVariants.{Bound, Conditional, Nothing}
 use Rattle.analysis.specs.Answering.{answer_at}
-use Rattle.words.specs.Writing.{Put}
-use Rattle.words.proofs.Puts.{put_none, put_then}
-use Rattle.lines.specs.Lines.{task_line, task_lines}
+use Rattle.words.specs.Text.{text, labelled, newline}
+use Rattle.words.proofs.Words.{labelled_few}
+use Rattle.lines.specs.Lines.{answer_text, task_line, task_lines}
 
--- none yet
-pub no_lines : (o : List ℕ) (at : ℕ) (s : List ℕ) (a : Analysis) → Put o at (task_lines s a 0) o at
+-- none
+pub task_lines_none : (s : List ℕ) (a : Analysis) → task_lines s a 0 ≡ []
 unfolding task_lines
-no_lines o at s a = put_none o at
+task_lines_none s a = refl
 
 -- one more
-pub line_more : (o : List ℕ) (at : ℕ) (s : List ℕ) (a : Analysis) (i : ℕ) (o₁ o₂ : List ℕ) (r₁ r₂ : ℕ) → at + length (task_lines s a i) ≤ length o
-    → Put o at (task_lines s a i) o₁ r₁ → Put o₁ r₁ (task_line (task_of s i) (answer_at a i)) o₂ r₂ → Put o at (task_lines s a (i + 1)) o₂ r₂
+pub task_lines_more : (s : List ℕ) (a : Analysis) (i : ℕ) → task_lines s a (i + 1) ≡ task_lines s a i ++ task_line (task_of s i) (answer_at a i)
 unfolding task_lines
-line_more o at s a i o₁ o₂ r₁ r₂ l p q = rw add-one (put_then o at (task_lines s a i) (task_line (task_of s i) (answer_at a i)) o₁ o₂ r₁ r₂ l p q)
+task_lines_more s a i = rw add-one refl
+
+-- fewer lines, and one more, are no longer than more
+pub task_lines_grow : (s : List ℕ) (a : Analysis) (i k : ℕ) → i < k → length (task_lines s a i) + length (task_line (task_of s i) (answer_at a i)) ≤ length (task_lines s a k)
+unfolding task_lines
+task_lines_grow s a i zero l = absurd (omega arith)
+task_lines_grow s a i (suc k) l = ?

@@ -1,9 +1,10 @@
 // The lines that the bounds program prints, put into a lent buffer.
-#![tactic(auto)]
+#![tactic(auto, using(words::proofs::Pages::pages))]
 
 ghost use Rattle.std.specs.Prelude.{◌≤◌, length};
 ghost use Rattle.io.specs.Counts.{IsPrefixLen};
 ghost use Rattle.lines.specs.Lines.{verdict_text, lines_of, printed};
+ghost use Rattle.words.specs.Pages.{room, Puts};
 ghost use Rattle.words.specs.Text.{fitted};
 ghost use Rattle.words.specs.Writing.{Put};
 
@@ -11,36 +12,38 @@ mod tasks;
 
 use analysis::Analysis;
 use tasks::put_tasks;
-use words::{put, put_refusal, put_text};
+use words::Page;
 
-// Puts the verdict and the total at the front.
-fn put_verdict(out: &mut [u8], verdict: bool, evaluations: u64) -> usize
-    requires { 64 ≤ length out.old }
-    ensures put { Put out.old 0 (verdict_text verdict evaluations) out.new result }
-    ensures upper_bound { result ≤ 44 }
+// Puts the verdict and the total.
+fn put_verdict(page: &mut Page, verdict: bool, evaluations: u64)
+    requires { length (verdict_text verdict evaluations) ≤ room page.old }
+    ensures { Puts page.old (verdict_text verdict evaluations) page.new }
 {
     if verdict {
-        return put(out, 0, b"verdict yes evaluations ", evaluations);
+        page.number(b"verdict yes evaluations ", evaluations);
+    } else {
+        page.number(b"verdict no evaluations ", evaluations);
     }
-    put(out, 0, b"verdict no evaluations ", evaluations)
 }
 
 // Puts the lines of an analysis: a refusal alone, or the verdict and every task.
-fn put_lines(out: &mut [u8], bytes: &[u8], analysis: Analysis) -> usize
-    requires tasks_bound { analysis.tasks ≤ 32 }
-    requires in_bounds { 4096 ≤ length out.old }
-    ensures { Put out.old 0 (lines_of bytes.now analysis) out.new result }
+fn put_lines(page: &mut Page, bytes: &[u8], analysis: &Analysis)
+    requires tasks_bound { analysis.now.tasks ≤ 32 }
+    requires room { length (lines_of bytes.now analysis.now) ≤ room page.old }
+    ensures { Puts page.old (lines_of bytes.now analysis.now) page.new }
 {
     if 0 < analysis.refusal.number {
-        return put_refusal(out, analysis.refusal);
+        page.refusal(analysis.refusal);
+    } else {
+        put_verdict(page, analysis.verdict, analysis.evaluations);
+        page.text(b"\n");
+        put_tasks(page, bytes, analysis);
     }
-    let verdict = put_verdict(out, analysis.verdict, analysis.evaluations);
-    let end = put_text(out, verdict, b"\n");
-    put_tasks(out, end, bytes, analysis)
 }
 
 // What the bounds program prints of a table's bytes, at the front of a buffer; the answer is how long it is, and the rest of the buffer stays.
 // A buffer of less than 4,096 bytes stays as it is, and the answer is 0.
+#[tactic(auto, using(words::proofs::Pages::pages), unfolding(words::specs::Pages::sheet, words::specs::Sheet::onward))]
 pub fn bounds_lines(bytes: &[u8], allowance: u64, out: &mut [u8]) -> usize
     ensures put { Put out.old 0 (fitted 4096 (length out.old) (printed bytes.now allowance)) out.new result }
     ensures prefix_len { IsPrefixLen result out.new }
@@ -49,5 +52,7 @@ pub fn bounds_lines(bytes: &[u8], allowance: u64, out: &mut [u8]) -> usize
         return 0;
     }
     let analysis = analysis::analyse(bytes, allowance);
-    put_lines(out, bytes, analysis)
+    let mut page = Page::new(out);
+    put_lines(&mut page, bytes, &analysis);
+    page.len()
 }

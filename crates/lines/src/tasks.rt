@@ -1,51 +1,44 @@
 // The lines of the tasks.
-ghost use Rattle.std.specs.Prelude.{◌+◌, ◌*◌, ◌≤◌, length};
+ghost use Rattle.std.specs.Prelude.{◌≤◌, length};
 ghost use Rattle.lines.specs.Lines.{answer_text, task_line, task_lines};
-ghost use Rattle.words.specs.Writing.{Put};
+ghost use Rattle.words.specs.Pages.{room, Puts};
 
 use analysis::{Analysis, TaskAnswer};
 use table::Task;
-use words::{put, put_text};
+use words::Page;
 
 // Puts what a task is answered.
-fn put_answer(out: &mut [u8], at: usize, answer: TaskAnswer) -> usize
-    requires { at + 27 ≤ length out.old }
-    ensures put { Put out.old at (answer_text answer) out.new result }
-    ensures upper_bound { result ≤ at + 27 }
+fn put_answer(page: &mut Page, answer: TaskAnswer)
+    requires { length (answer_text answer) ≤ room page.old }
+    ensures { Puts page.old (answer_text answer) page.new }
 {
     match answer {
-        TaskAnswer::Bound(value) => put(out, at, b" bound ", value),
-        TaskAnswer::Conditional(value) => put(out, at, b" if ", value),
-        TaskAnswer::Nothing => put_text(out, at, b" none"),
+        TaskAnswer::Bound(value) => page.number(b" bound ", value),
+        TaskAnswer::Conditional(value) => page.number(b" if ", value),
+        TaskAnswer::Nothing => page.text(b" none"),
     }
 }
 
 // Puts the line of a task.
-fn put_task(out: &mut [u8], at: usize, task: Task, answer: TaskAnswer) -> usize
-    requires { at + 80 ≤ length out.old }
-    ensures put { Put out.old at (task_line task answer) out.new result }
-    ensures upper_bound { result ≤ at + 80 }
+fn put_task(page: &mut Page, task: Task, answer: TaskAnswer)
+    requires { length (task_line task answer) ≤ room page.old }
+    ensures { Puts page.old (task_line task answer) page.new }
 {
-    let named = put(out, at, b"", task.priority as u64);
-    let answered = put_answer(out, named, answer);
-    let end = put(out, answered, b" deadline ", task.deadline as u64);
-    put_text(out, end, b"\n")
+    page.number(b"", u64::from(task.priority));
+    put_answer(page, answer);
+    page.number(b" deadline ", u64::from(task.deadline));
+    page.text(b"\n");
 }
 
 // Puts the lines of the tasks.
-pub fn put_tasks(out: &mut [u8], at: usize, bytes: &[u8], analysis: Analysis) -> usize
-    requires tasks_bound { analysis.tasks ≤ 32 }
-    requires tasks_in_bounds { at + 80 * analysis.tasks ≤ length out.old }
-    ensures { Put out.old at (task_lines bytes.now analysis analysis.tasks) out.new result }
+#[tactic(auto, using(words::proofs::Pages::pages, crate::proofs::Puts::task_lines_none, crate::proofs::Puts::task_lines_more, crate::proofs::Puts::task_lines_grow))]
+pub fn put_tasks(page: &mut Page, bytes: &[u8], analysis: &Analysis)
+    requires tasks_bound { analysis.now.tasks ≤ 32 }
+    requires room { length (task_lines bytes.now analysis.now analysis.now.tasks) ≤ room page.old }
+    ensures { Puts page.old (task_lines bytes.now analysis.now analysis.now.tasks) page.new }
 {
-    let tasks = analysis.tasks;
-    let mut end = at;
-    let mut i = 0;
-    while i < tasks {
+    for i in 0..analysis.tasks {
         let task = table::task_at(bytes, 20 * i);
-        let answer = analysis.answer(i);
-        end = put_task(out, end, task, answer);
-        i += 1;
+        put_task(page, task, analysis.answer(i));
     }
-    end
 }

@@ -198,6 +198,10 @@ unfolding printables
 printables_length [] = refl
 printables_length (b ∷ w) = ap suc (printables_length w)
 
+-- as many bytes as the front of a word has
+pub printables_front : (w : List ℕ) (i : ℕ) → i ≤ length w → length (printables (take i w)) ≡ i
+printables_front w i l = printables_length (take i w) ∙ length-take-le i w l
+
 -- none
 pub printables_none : printables [] ≡ []
 unfolding printables

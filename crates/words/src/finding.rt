@@ -36,6 +36,7 @@ fn passed(text: &[u8], at: usize, class: Class) -> usize
 }
 
 // The first place, from a place on, whose byte is not of a class, or the end of the text.
+#[tactic(auto, using(crate::proofs::Words::lead_taken))]
 pub fn run_end(text: &[u8], at: usize, class: Class) -> usize
     ensures value { result ≡ run_end text.now at (class_number class) }
     ensures upper_bound { at ≤ length text.now → result ≤ length text.now }
@@ -44,6 +45,7 @@ pub fn run_end(text: &[u8], at: usize, class: Class) -> usize
 }
 
 // Whether two texts are the same.
+#[tactic(auto, using(crate::proofs::Words::same_slices))]
 pub fn same(left: &[u8], right: &[u8]) -> bool
     ensures { result ≡ same left.now right.now }
 {

@@ -63,6 +63,7 @@ impl<'a> Page<'a> {
     }
 
     // Puts a word and a number after it.
+    #[tactic(auto, using(crate::proofs::Pages::pages, crate::proofs::Texts::decimal_spelled))]
     pub fn number(&mut self, label: &[u8], number: u64)
         requires { length (labelled label.now number) ≤ room self.old }
         ensures { Puts self.old (labelled label.now number) self.new }
@@ -74,7 +75,7 @@ impl<'a> Page<'a> {
     }
 
     // Puts the bytes of a word as they may be printed.
-    #[tactic(auto, using(crate::proofs::Pages::pages, crate::proofs::Words::printables_none, crate::proofs::Words::printables_more, crate::proofs::Words::printables_length))]
+    #[tactic(auto, using(crate::proofs::Pages::pages, crate::proofs::Words::printables_none, crate::proofs::Words::printables_more, crate::proofs::Words::printables_front))]
     fn printables(&mut self, word: &[u8])
         requires { length word.now ≤ room self.old }
         ensures { Puts self.old (printables word.now) self.new }
