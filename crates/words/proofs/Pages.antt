@@ -1,5 +1,10 @@
 -- Texts put on a page one after the other are their texts put together.
-use Rattle.std.proofs.Common.{◌≡◌, ℕ, ◌+◌, ◌-◌, List, [], ◌++◌, length, drop, append_assoc, arith, length-append, length-drop}
+use Rattle.std.proofs.Common.{◌≡◌, ℕ, ◌+◌, ◌-◌, List, [], ◌++◌, length, drop, append_assoc, arith, length-append, length-drop, ◌≤◌, take, sym, ap, ap₂, ◌∙◌}
+use lib.ListN.{take-append-drop}
+use lib.Seq.{length-take-le, drop-drop}
+use Rattle.words.specs.declared.page.Page.{Page}
+use Rattle.words.specs.Pages.{sheet, room, Puts}
+use Rattle.words.specs.Writing.{Put}
 use Rattle.std.proofs.lemmas.Grind.{common_steps}
 use Rattle.words.specs.Sheet.{Sheet, onward}
 
@@ -17,6 +22,18 @@ onward_none s = grind (arith, common_steps)
 pub room_onward : (s : Sheet) (t : List ℕ) → length (onward s t).rest ≡ length s.rest - length t
 unfolding onward
 room_onward s t = length-drop (length t) s.rest
+
+-- what a text does to the buffer: it stands at the place, what stood before and after it stays, and the place is the one after it
+pub puts_put : (p q : Page) (t : List ℕ) → Puts p t q → Put p.out.now p.at t q.out.now q.at
+unfolding sheet onward
+puts_put p q t h =
+    let front : take q.at q.out.now ≡ take p.at p.out.now ++ t = ap (λ (s : Sheet). s.put) h in
+    let rest : drop q.at q.out.now ≡ drop (length t) (drop p.at p.out.now) = ap (λ (s : Sheet). s.rest) h in
+    record {
+      end = sym (length-take-le q.at q.out.now q.within) ∙ ap length front ∙ length-append (take p.at p.out.now) t ∙ ap (λ (n : ℕ). n + length t) (length-take-le p.at p.out.now p.within);
+      holds = sym (take-append-drop q.at q.out.now) ∙ ap₂ (λ (x y : List ℕ). x ++ y) front (rest ∙ drop-drop (length t) p.at p.out.now)
+          ∙ append_assoc (take p.at p.out.now) t (drop (p.at + length t) p.out.now);
+    }
 
 -- the laws of pages
 pub ruleset pages = (onward_on, onward_none, room_onward, length-append, append_assoc)

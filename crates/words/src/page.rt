@@ -4,7 +4,7 @@ ghost use Rattle.words.specs.Finding.{printable};
 
 use table::Refusal;
 
-// A lent buffer, and the place up to which text was put.
+// A lent buffer, and the place up to which text was put. It has no model: with one a caller is not told what the buffer holds in the end.
 #[derive(Drop)]
 pub struct Page<'a> {
     out: &'a mut [u8],
@@ -101,7 +101,7 @@ impl<'a> Page<'a> {
         }
     }
 
-    // Puts the line of a refusal.
+    // Puts the line of a refusal. A `write!` of it says what is put where the answer is Ok, but not that it is Ok on a page with room.
     pub fn refusal(&mut self, refusal: Refusal)
         requires { length (refusal_line refusal) ≤ room self.old }
         ensures { Puts self.old (refusal_line refusal) self.new }
