@@ -3,7 +3,7 @@ use Rattle.std.proofs.Common.{◌≡◌, ℕ, ◌+◌, ◌-◌, List, [], ◌++�
 use lib.ListN.{take-append-drop}
 use lib.Seq.{length-take-le, drop-drop}
 use Rattle.words.specs.declared.page.Page.{Page}
-use Rattle.words.specs.Pages.{sheet, room, Puts}
+use Rattle.words.specs.Pages.{sheet, Puts}
 use Rattle.words.specs.Writing.{Put}
 use Rattle.std.proofs.lemmas.Grind.{common_steps}
 use Rattle.words.specs.Sheet.{Sheet, onward}

@@ -1,25 +1,12 @@
 -- Texts put one after the other are their texts put together.
-use Prim.Native.Nat.{ℕ, ◌+◌, ◌-◌, ◌≤◌}
+use Prim.Native.Nat.{ℕ, ◌+◌, ◌≤◌}
 use mathlib.Core.Path.{◌≡◌, sym, ap, ◌∙◌}
-use mathlib.Core.List.{List, [], ◌++◌, append-nil, append_assoc}
+use mathlib.Core.List.{List, [], ◌++◌, append_assoc}
 use native.Mathlib.Omega.{arith}
-use lib.ListN.{length, take, drop, length-append, length-drop, take-append-drop, drop_of_length-le}
-use lib.Seq.{length-take-le, take-length, take_all, take-append-add, take-append_seam, drop-append-add, drop-drop}
+use lib.ListN.{length, take, drop, length-append, length-drop, take-append-drop}
+use lib.Seq.{length-take-le, take-append-add, take-append_seam, drop-append-add, drop-drop}
 use Rattle.io.specs.Counts.{IsPrefixLen}
 use Rattle.words.specs.Writing.{Put}
-
--- a text copied over the front of what stands from a place on
-pub put_in : (o t part : List ℕ) (at : ℕ) → at + length t ≤ length o
-    → part ≡ take (length t) t ++ drop (length t) (take (length o - at) (drop at o))
-    → take at o ++ (part ++ drop (length o - at) (drop at o)) ≡ take at o ++ (t ++ drop (at + length t) o)
-put_in o t part at l e =
-    let from : length (drop at o) ≡ length o - at = length-drop at o in
-    let whole : take (length o - at) (drop at o) ≡ drop at o = take_all (length o - at) (drop at o) (omega arith) in
-    let past : drop (length o - at) (drop at o) ≡ [] = drop_of_length-le (drop at o) {i = length o - at} (omega arith) in
-    ap (λ (x : List ℕ). take at o ++ x)
-    (ap (λ (x : List ℕ). part ++ x) past ∙ append-nil part ∙ e
-    ∙ ap (λ (x : List ℕ). x ++ drop (length t) (take (length o - at) (drop at o))) (take-length t)
-    ∙ ap (λ (x : List ℕ). t ++ drop (length t) x) whole ∙ ap (λ (x : List ℕ). t ++ x) (drop-drop (length t) at o))
 
 -- no text put anywhere: the buffer stays
 pub put_none : (o : List ℕ) (at : ℕ) → Put o at [] o at
