@@ -1,6 +1,6 @@
 -- The lines of the tasks, one after the other.
-use Rattle.std.proofs.Common.{◌≡◌, ℕ, zero, suc, ◌+◌, ◌*◌, ◌≤◌, ◌<◌, List, [], ◌++◌, length, refl, arith, add-one, length-append}
-use native.Mathlib.Nat.{mul-suc}
+use Rattle.std.proofs.Common.{◌≡◌, ℕ, zero, suc, ◌+◌, ◌*◌, ◌≤◌, ◌<◌, List, [], ◌++◌, length, refl, arith, add-one, length-append, Bool, true, false, cond, ltb}
+use native.Mathlib.Decide.{dec_lt}
 use Rattle.table.specs.declared.Task.{Task}
 use Rattle.table.specs.WellFormed.{task_of}
 use Rattle.analysis.specs.declared.Analysis.{Analysis}
@@ -8,8 +8,9 @@ use Rattle.analysis.specs.declared.TaskAnswer.{TaskAnswer}
 use Rattle.analysis.specs.declared.TaskAnswer.TheVariants.{Bound, Conditional, Nothing}
 use Rattle.analysis.specs.Answering.{answer_at}
 use Rattle.words.specs.Text.{text, labelled, newline}
-use Rattle.words.proofs.Words.{labelled_few}
-use Rattle.lines.specs.Lines.{answer_text, task_line, task_lines}
+use Rattle.words.specs.Refusing.{refusal_line}
+use Rattle.words.proofs.Words.{labelled_few, refusal_few}
+use Rattle.lines.specs.Lines.{verdict_text, answer_text, task_line, task_lines, lines_of}
 
 -- none
 pub task_lines_none : (s : List ℕ) (a : Analysis) → task_lines s a 0 ≡ []
@@ -21,8 +22,68 @@ pub task_lines_more : (s : List ℕ) (a : Analysis) (i : ℕ) → task_lines s a
 unfolding task_lines
 task_lines_more s a i = rw add-one refl
 
--- fewer lines, and one more, are no longer than more
+-- the lines before a task's and its own are no longer than all
 pub task_lines_grow : (s : List ℕ) (a : Analysis) (i k : ℕ) → i < k → length (task_lines s a i) + length (task_line (task_of s i) (answer_at a i)) ≤ length (task_lines s a k)
 unfolding task_lines
 task_lines_grow s a i zero l = absurd (omega arith)
-task_lines_grow s a i (suc k) l = ?
+task_lines_grow s a i (suc k) l = go (dec_lt i k) (task_lines_grow s a i k)
+  where
+    longer : length (task_lines s a (suc k)) ≡ length (task_lines s a k) + length (task_line (task_of s k) (answer_at a k))
+    longer = length-append (task_lines s a k) (task_line (task_of s k) (answer_at a k))
+
+    go : Dec (i < k) → (i < k → length (task_lines s a i) + length (task_line (task_of s i) (answer_at a i)) ≤ length (task_lines s a k))
+        → length (task_lines s a i) + length (task_line (task_of s i) (answer_at a i)) ≤ length (task_lines s a (suc k))
+    go (yes h) fewer = omega (arith, fewer h, longer)
+    go (no h) fewer =
+        let last : i ≡ k = omega arith in
+        rw last (omega (arith, longer))
+
+-- what a task is answered
+answer_few : (answer : TaskAnswer) → length (answer_text answer) ≤ 27
+answer_few (Bound value) = labelled_few (text " bound ") value
+answer_few (Conditional value) = omega (arith, labelled_few (text " if ") value)
+answer_few Nothing = omega arith
+
+-- a task's line
+task_line_few : (task : Task) (answer : TaskAnswer) → length (task_line task answer) ≤ 80
+task_line_few task answer =
+    let first = labelled [] task.priority in
+    let third = labelled (text " deadline ") task.deadline in
+    omega (
+      arith,
+      length-append first (answer_text answer ++ (third ++ newline)),
+      length-append (answer_text answer) (third ++ newline),
+      length-append third newline,
+      labelled_few [] task.priority,
+      answer_few answer,
+      labelled_few (text " deadline ") task.deadline,
+    )
+
+-- the lines of tasks
+task_lines_few : (s : List ℕ) (a : Analysis) (k : ℕ) → length (task_lines s a k) ≤ 80 * k
+unfolding task_lines
+task_lines_few s a zero = omega arith
+task_lines_few s a (suc k) =
+    omega (arith, length-append (task_lines s a k) (task_line (task_of s k) (answer_at a k)), task_lines_few s a k, task_line_few (task_of s k) (answer_at a k))
+
+-- the verdict
+verdict_few : (verdict : Bool) (evaluations : ℕ) → length (verdict_text verdict evaluations) ≤ 44
+verdict_few true evaluations = labelled_few (text "verdict yes evaluations ") evaluations
+verdict_few false evaluations = omega (arith, labelled_few (text "verdict no evaluations ") evaluations)
+
+-- all that is printed of an analysis
+pub lines_few : (s : List ℕ) (a : Analysis) → a.tasks ≤ 32 → length (lines_of s a) ≤ 4096
+lines_few s a l = go (ltb 0 a.refusal.number)
+  where
+    go : (x : Bool) → length (cond x (refusal_line a.refusal) (verdict_text a.verdict a.evaluations ++ (newline ++ task_lines s a a.tasks))) ≤ 4096
+    go true = omega (arith, refusal_few a.refusal)
+    go false =
+        let told = verdict_text a.verdict a.evaluations in
+        let rest = task_lines s a a.tasks in
+        omega (
+          arith,
+          length-append told (newline ++ rest),
+          length-append newline rest,
+          verdict_few a.verdict a.evaluations,
+          task_lines_few s a a.tasks,
+        )

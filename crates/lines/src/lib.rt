@@ -43,7 +43,7 @@ fn put_lines(page: &mut Page, bytes: &[u8], analysis: &Analysis)
 
 // What the bounds program prints of a table's bytes, at the front of a buffer; the answer is how long it is, and the rest of the buffer stays.
 // A buffer of less than 4,096 bytes stays as it is, and the answer is 0.
-#[tactic(auto, using(words::proofs::Pages::pages), unfolding(words::specs::Pages::sheet, words::specs::Sheet::onward))]
+#[tactic(auto, using(words::proofs::Pages::pages, analysis::proofs::Replies::tasks_most, crate::proofs::Puts::lines_few), unfolding(words::specs::Pages::sheet, words::specs::Sheet::onward))]
 pub fn bounds_lines(bytes: &[u8], allowance: u64, out: &mut [u8]) -> usize
     ensures put { Put out.old 0 (fitted 4096 (length out.old) (printed bytes.now allowance)) out.new result }
     ensures prefix_len { IsPrefixLen result out.new }

@@ -31,7 +31,7 @@ fn put_task(page: &mut Page, task: Task, answer: TaskAnswer)
 }
 
 // Puts the lines of the tasks.
-#[tactic(auto, using(words::proofs::Pages::pages, crate::proofs::Puts::task_lines_none, crate::proofs::Puts::task_lines_more, crate::proofs::Puts::task_lines_grow))]
+#[tactic(auto, using(words::proofs::Pages::pages, crate::proofs::Puts::task_lines_none, crate::proofs::Puts::task_lines_more))]
 pub fn put_tasks(page: &mut Page, bytes: &[u8], analysis: &Analysis)
     requires tasks_bound { analysis.now.tasks ≤ 32 }
     requires room { length (task_lines bytes.now analysis.now analysis.now.tasks) ≤ room page.old }
