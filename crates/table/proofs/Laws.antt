@@ -1,14 +1,14 @@
 -- Laws of the definitions that the functions' proofs cite.
-use Prim.Native.Nat.{ℕ, zero, suc, ◌+◌, ◌*◌, ◌^◌, ◌-◌, ◌≤◌, ◌<◌}
-use mathlib.Core.Path.{◌≡◌, refl, ap, ◌∙◌}
+use Prim.Native.Nat.{ℕ, zero, suc, ◌+◌, ◌*◌, ◌-◌, ◌≤◌, ◌<◌}
+use mathlib.Core.Path.{◌≡◌, refl, sym, ap, ◌∙◌}
 use mathlib.Core.Bool.{Bool, true, false, cond}
 use mathlib.Core.List.{List}
 use lib.Dec.{eqb}
 use lib.ListN.{get_or, length, get_or-eq_default}
 use native.Mathlib.Omega.{arith}
-use native.Mathlib.Nat.{mul-le-mul}
 use native.Mathlib.Decide.{ℕ_discrete}
 use borrow.Author.Tests.{eq-eqb, ne_eqb, eqb-true}
+use Rattle.std.specs.Prelude.{Option, Some, None, MatchOption, unwrap_or}
 use Rattle.table.specs.Fields.{word_at, no_task, no_use, task_at, use_at}
 use Rattle.table.specs.Rules.{place_from}
 
@@ -41,27 +41,7 @@ module _ (s : List ℕ) (i : ℕ) (past : length s ≤ i) where
   pub use_past : no_use ≡ use_at s i
   use_past = cc (byte_past 1, byte_past 2, byte_past 3, word_past_by 4)
 
--- a product of a byte and a word
-pub byte_times_word : (a b : ℕ) → a < 256 → b < 2 ^ 32 → a * b ≤ 255 * 2 ^ 32
-byte_times_word a b ha hb = mul-le-mul {n₂ = 255} {m₂ = 2 ^ 32} (omega arith) (omega arith)
-
 -- ---- the search for a task's place
-one_more_lem : (n i : ℕ) → i < n → n - i ≡ suc (n - (i + 1))
-one_more_lem n i h = omega arith
-
-module _ (s : List ℕ) (n i p : ℕ) where
-  pub place_here : i < n → get_or s (20 * i + 1) 0 ≡ p → place_from (n - i) s i p ≡ i
-  unfolding place_from
-  place_here h e = rw (one_more_lem n i h) (simp (eq-eqb _ _ e))
-
-  pub place_next : i < n → (get_or s (20 * i + 1) 0 ≡ p → ⊥) → place_from (n - i) s i p ≡ place_from (n - (i + 1)) s (i + 1) p
-  unfolding place_from
-  place_next h e = rw (one_more_lem n i h) (simp (ne_eqb _ _ e))
-
-  pub place_end : n ≤ i → place_from (n - i) s i p ≡ i
-  unfolding place_from
-  place_end h = let z : n - i ≡ 0 = omega arith in rw z
-
 -- the place that is found is one of those searched, or just past them
 pub place_within : (k : ℕ) (s : List ℕ) (i p : ℕ) → (i ≤ place_from k s i p) × (place_from k s i p ≤ i + k)
 unfolding place_from
@@ -89,12 +69,33 @@ place_has (suc k) s i p h = go (eqb (get_or s (20 * i + 1) 0) p) refl h (place_h
     go false e h more = more (omega arith)
 
 -- a place that has the priority, with none before it that has, is the one that is found
-pub place_first : (k : ℕ) (s : List ℕ) (i p m : ℕ) → i ≤ m → m < i + k → get_or s (20 * m + 1) 0 ≡ p
-    → ((n : ℕ) → n < m → get_or s (20 * n + 1) 0 ≡ p → ⊥) → place_from k s i p ≡ m
+place_reached : (k : ℕ) (s : List ℕ) (i p m : ℕ) → i ≤ m → m < i + k → get_or s (20 * m + 1) 0 ≡ p
+    → ((n : ℕ) → i ≤ n → n < m → get_or s (20 * n + 1) 0 ≡ p → ⊥) → place_from k s i p ≡ m
 unfolding place_from
-place_first zero s i p m a b e f = absurd (omega arith)
-place_first (suc k) s i p m a b e f = go (ℕ_discrete i m) (λ l r. place_first k s (i + 1) p m l r e f)
+place_reached zero s i p m a b e f = absurd (omega arith)
+place_reached (suc k) s i p m a b e f = go (ℕ_discrete i m) (λ l r. place_reached k s (i + 1) p m l r e (λ n h. f n (omega arith)))
   where
     go : Dec (i ≡ m) → (i + 1 ≤ m → m < i + 1 + k → place_from k s (i + 1) p ≡ m) → cond (eqb (get_or s (20 * i + 1) 0) p) i (place_from k s (i + 1) p) ≡ m
     go (yes q) more = rw (eq-eqb (get_or s (20 * i + 1) 0) p (ap (λ (n : ℕ). get_or s (20 * n + 1) 0) q ∙ e)) q
-    go (no n) more = rw (ne_eqb (get_or s (20 * i + 1) 0) p (f i (omega arith))) (more (omega arith) (omega arith))
+    go (no n) more = rw (ne_eqb (get_or s (20 * i + 1) 0) p (f i (omega arith) (omega arith))) (more (omega arith) (omega arith))
+
+pub place_first : (k : ℕ) (s : List ℕ) (i p m : ℕ) → i ≤ m → m < i + k → get_or s (20 * m + 1) 0 ≡ p
+    → ((n : ℕ) → n < m → get_or s (20 * n + 1) 0 ≡ p → ⊥) → place_from k s i p ≡ m
+place_first k s i p m a b e f = place_reached k s i p m a b e (λ n h. f n)
+
+-- where none has it, the place is past them all
+place_none : (k : ℕ) (s : List ℕ) (i p : ℕ) → ((n : ℕ) → i ≤ n → n < i + k → get_or s (20 * n + 1) 0 ≡ p → ⊥) → place_from k s i p ≡ i + k
+unfolding place_from
+place_none zero s i p f = omega arith
+place_none (suc k) s i p f =
+    let more = place_none k s (i + 1) p (λ n a b. f n (omega arith) (omega arith)) in
+    rw (ne_eqb (get_or s (20 * i + 1) 0) p (f i (omega arith) (omega arith))) (omega arith)
+
+-- so it is what a search from a place on answers, or the count
+pub place_searched : (s : List ℕ) (count first p : ℕ) → first ≤ count → (r : Option ℕ)
+    → MatchOption r ((n : ℕ) → first ≤ n → n < count → get_or s (20 * n + 1) 0 ≡ p → ⊥)
+    (λ m. (first ≤ m) × (m < count) × (get_or s (20 * m + 1) 0 ≡ p) × ((n : ℕ) → first ≤ n → n < m → get_or s (20 * n + 1) 0 ≡ p → ⊥))
+    → unwrap_or r count ≡ place_from (count - first) s first p
+place_searched s count first p h None f =
+    let z = place_none (count - first) s first p (λ n a b. f n a (omega arith)) in omega arith
+place_searched s count first p h (Some m) (a, b, e, f) = sym (place_reached (count - first) s first p m a (omega arith) e f)

@@ -19,7 +19,7 @@ use std::fmt;
 use walk::Step;
 
 // A task: its priority, system setting, most sleeps X, run time C, sleep S, deadline D and period T.
-#[derive(Clone, Copy)]
+#[derive(Clone, Copy, PartialEq, Eq, Debug, Default)]
 pub struct Task {
     pub priority: u8,
     pub setting: u8,
@@ -31,7 +31,7 @@ pub struct Task {
 }
 
 // A use of a resource: the task's priority, the resource, how often N at most and how long L each.
-#[derive(Clone, Copy)]
+#[derive(Clone, Copy, PartialEq, Eq, Debug, Default)]
 pub struct Use {
     pub priority: u8,
     pub resource: u8,
@@ -40,7 +40,7 @@ pub struct Use {
 }
 
 // What an accepted table has: its tasks, the place where its uses start, and its uses.
-#[derive(Clone, Copy)]
+#[derive(Clone, Copy, PartialEq, Eq, Debug)]
 pub struct Shape {
     pub tasks: usize,
     pub uses_at: usize,

@@ -3,7 +3,7 @@ ghost use Rattle.std.specs.Prelude.{◌≡◌, ◌+◌, ◌*◌, ◌-◌, ◌^�
 ghost use Rattle.table.specs.Ranges.{task_fits, use_fits};
 ghost use Rattle.table.specs.Rules.{task_rule, place_from, sum_after, use_rule};
 
-use crate::fields::{byte_at, wide};
+use crate::fields::byte_at;
 use crate::walk::Walk;
 use crate::{Task, Use, Why};
 
@@ -11,26 +11,24 @@ use crate::{Task, Use, Why};
 pub fn task_fits(task: Task) -> bool
     ensures { result ≡ task_fits task }
 {
-    (1 <= task.priority)
-        & (task.setting < task.priority)
-        & (task.sleeps <= 64)
-        & (1 <= task.run)
-        & (task.sleep <= 1000000)
-        & ((1 <= task.sleeps) | (task.sleep <= 0))
-        & (task.run <= task.deadline)
-        & (task.deadline <= task.period)
-        & (task.period <= 1000000)
+    1 <= task.priority
+        && task.setting < task.priority
+        && task.sleeps <= 64
+        && 1 <= task.run
+        && task.sleep <= 1_000_000
+        && (1 <= task.sleeps || task.sleep == 0)
+        && task.run <= task.deadline
+        && task.deadline <= task.period
+        && task.period <= 1_000_000
 }
 
 // Each field of a use within its range.
 pub fn use_fits(usage: Use) -> bool
     ensures { result ≡ use_fits usage }
 {
-    (1 <= usage.resource)
-        & (usage.resource <= 16)
-        & (1 <= usage.times)
-        & (1 <= usage.length)
-        & (usage.length <= 1000000)
+    (1..=16).contains(&usage.resource)
+        && 1 <= usage.times
+        && (1..=1_000_000).contains(&usage.length)
 }
 
 // Whether a task may stand here, else why not.
@@ -41,7 +39,7 @@ pub fn task_rule(walk: Walk, task: Task) -> Result<(), Why>
     if 32 <= walk.tasks {
         return Err(Why::TooMany);
     }
-    if 1 <= walk.uses || walk.last <= wide(task.priority) {
+    if 1 <= walk.uses || walk.last <= u32::from(task.priority) {
         return Err(Why::Order);
     }
     if !task_fits(task) {
@@ -55,22 +53,18 @@ pub fn place_of(bytes: &[u8], count: usize, first: usize, priority: u8) -> usize
     requires { (20 * count ≤ length bytes.now) × (first ≤ count) }
     ensures { result ≡ place_from (count - first) bytes.now first priority }
 {
-    let mut i = first;
-    while i < count {
-        if byte_at(bytes, 20 * i + 1) == priority {
-            return i;
-        }
-        i += 1;
-    }
-    i
+    (first..count)
+        .find(|i| byte_at(bytes, 20 * *i + 1) == priority)
+        .unwrap_or(count)
 }
 
 // What the sections of the task at a place add up to, this use with them.
+#[tactic(auto, unfolding(crate::specs::Rules::sum_after))]
 pub fn sum_after(walk: Walk, usage: Use, user: usize) -> u64
     requires { walk.sum < 2 ^ 32 }
     ensures { result ≡ sum_after walk usage user }
 {
-    let more = usage.times as u64 * usage.length as u64;
+    let more = u64::from(usage.times) * u64::from(usage.length);
     if user == walk.user {
         walk.sum + more
     } else {
@@ -84,7 +78,7 @@ pub fn use_rule(walk: Walk, usage: Use, user: usize, run: u32) -> Result<(), Why
     requires { walk.sum < 2 ^ 32 }
     ensures { result ≡ use_rule walk usage user run }
 {
-    if walk.tasks <= user || (user == walk.user && wide(usage.resource) < walk.least) {
+    if walk.tasks <= user || (user == walk.user && u32::from(usage.resource) < walk.least) {
         return Err(Why::Order);
     }
     if !use_fits(usage) {

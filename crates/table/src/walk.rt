@@ -4,7 +4,7 @@ ghost use Rattle.table.specs.Rules.{with_task, with_use};
 ghost use Rattle.table.specs.Reading.{start_walk, task_step, use_step, end_step, kind_of, step_at};
 ghost use Rattle.table.specs.Sound.{Sound};
 
-use crate::fields::{task_at, use_at, wide, word_at};
+use crate::fields::{task_at, use_at, word_at};
 use crate::rules::{place_of, sum_after, task_rule, use_rule};
 use crate::{Refusal, Shape, Task, Use, Why};
 
@@ -73,11 +73,8 @@ fn with_task(walk: Walk, task: Task) -> Walk
     Walk {
         at: walk.at + 20,
         tasks: walk.tasks + 1,
-        last: wide(task.priority),
-        uses: walk.uses,
-        user: walk.user,
-        least: walk.least,
-        sum: walk.sum,
+        last: u32::from(task.priority),
+        ..walk
     }
 }
 
@@ -88,12 +85,11 @@ fn with_use(walk: Walk, usage: Use, user: usize) -> Walk
 {
     Walk {
         at: walk.at + 8,
-        tasks: walk.tasks,
-        last: walk.last,
         uses: walk.uses + 1,
         user,
-        least: wide(usage.resource) + 1,
+        least: u32::from(usage.resource) + 1,
         sum: sum_after(walk, usage, user),
+        ..walk
     }
 }
 
