@@ -1,6 +1,6 @@
 -- Laws of the definitions that the functions' proofs cite.
-use Prim.Native.Nat.{ℕ, zero, suc, ◌+◌, ◌*◌, ◌-◌, ◌≤◌, ◌<◌}
-use mathlib.Core.Path.{◌≡◌, refl, sym, ap, ◌∙◌}
+use Prim.Native.Nat.{ℕ, zero, suc, ◌+◌, ◌*◌, ◌≤◌, ◌<◌}
+use mathlib.Core.Path.{◌≡◌, refl, ap, ◌∙◌}
 use mathlib.Core.Bool.{Bool, true, false, cond}
 use mathlib.Core.List.{List}
 use lib.Dec.{eqb}
@@ -8,7 +8,6 @@ use lib.ListN.{get_or, length, get_or-eq_default}
 use native.Mathlib.Omega.{arith}
 use native.Mathlib.Decide.{ℕ_discrete}
 use borrow.Author.Tests.{eq-eqb, ne_eqb, eqb-true}
-use Rattle.std.specs.Prelude.{Option, Some, None, MatchOption, unwrap_or}
 use Rattle.table.specs.Fields.{word_at, no_task, no_use, task_at, use_at}
 use Rattle.table.specs.Rules.{place_from}
 
@@ -69,7 +68,7 @@ place_has (suc k) s i p h = go (eqb (get_or s (20 * i + 1) 0) p) refl h (place_h
     go false e h more = more (omega arith)
 
 -- a place that has the priority, with none before it that has, is the one that is found
-place_reached : (k : ℕ) (s : List ℕ) (i p m : ℕ) → i ≤ m → m < i + k → get_or s (20 * m + 1) 0 ≡ p
+pub place_reached : (k : ℕ) (s : List ℕ) (i p m : ℕ) → i ≤ m → m < i + k → get_or s (20 * m + 1) 0 ≡ p
     → ((n : ℕ) → i ≤ n → n < m → get_or s (20 * n + 1) 0 ≡ p → ⊥) → place_from k s i p ≡ m
 unfolding place_from
 place_reached zero s i p m a b e f = absurd (omega arith)
@@ -84,18 +83,9 @@ pub place_first : (k : ℕ) (s : List ℕ) (i p m : ℕ) → i ≤ m → m < i +
 place_first k s i p m a b e f = place_reached k s i p m a b e (λ n h. f n)
 
 -- where none has it, the place is past them all
-place_none : (k : ℕ) (s : List ℕ) (i p : ℕ) → ((n : ℕ) → i ≤ n → n < i + k → get_or s (20 * n + 1) 0 ≡ p → ⊥) → place_from k s i p ≡ i + k
+pub place_none : (k : ℕ) (s : List ℕ) (i p : ℕ) → ((n : ℕ) → i ≤ n → n < i + k → get_or s (20 * n + 1) 0 ≡ p → ⊥) → place_from k s i p ≡ i + k
 unfolding place_from
 place_none zero s i p f = omega arith
 place_none (suc k) s i p f =
     let more = place_none k s (i + 1) p (λ n a b. f n (omega arith) (omega arith)) in
     rw (ne_eqb (get_or s (20 * i + 1) 0) p (f i (omega arith) (omega arith))) (omega arith)
-
--- so it is what a search from a place on answers, or the count
-pub place_searched : (s : List ℕ) (count first p : ℕ) → first ≤ count → (r : Option ℕ)
-    → MatchOption r ((n : ℕ) → first ≤ n → n < count → get_or s (20 * n + 1) 0 ≡ p → ⊥)
-    (λ m. (first ≤ m) × (m < count) × (get_or s (20 * m + 1) 0 ≡ p) × ((n : ℕ) → first ≤ n → n < m → get_or s (20 * n + 1) 0 ≡ p → ⊥))
-    → unwrap_or r count ≡ place_from (count - first) s first p
-place_searched s count first p h None f =
-    let z = place_none (count - first) s first p (λ n a b. f n a (omega arith)) in omega arith
-place_searched s count first p h (Some m) (a, b, e, f) = sym (place_reached (count - first) s first p m a (omega arith) e f)
