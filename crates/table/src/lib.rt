@@ -16,7 +16,7 @@ pub use fields::{byte_at, no_task, no_use, task_at, use_at, whole_word, word_at}
 pub use rules::place_of;
 use std::error::Error;
 use std::fmt;
-use walk::Step;
+use walk::{Step, Walk};
 
 // A task: its priority, system setting, most sleeps X, run time C, sleep S, deadline D and period T.
 #[derive(Clone, Copy, PartialEq, Eq, Debug, Default)]
@@ -122,9 +122,9 @@ impl Error for Refusal {}
 pub fn read(bytes: &[u8]) -> Result<Shape, Refusal>
     ensures { result ≡ read_table bytes.now }
 {
-    let mut walk = walk::start();
+    let mut walk = Walk::start();
     loop {
-        match walk::advance(bytes, walk)? {
+        match walk.step(bytes)? {
             Step::On(next) => walk = next,
             Step::Done(shape) => return Ok(shape),
         }

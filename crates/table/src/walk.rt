@@ -10,6 +10,7 @@ use crate::{Refusal, Shape, Task, Use, Why};
 
 // Where the walk stands: the next record's place; the tasks so far and the last one's priority, 256 before the first; the uses so far,
 // the place of the last one's task, the least resource that its next use may name, and what its sections add up to.
+// That it is `Sound` is required and no ghost field: the definitions build walks that are not.
 #[derive(Clone, Copy)]
 pub struct Walk {
     pub at: usize,
@@ -50,116 +51,115 @@ impl Kind {
     }
 }
 
-// Before the first record.
-pub fn start() -> Walk
-    ensures { result ≡ start_walk }
-{
-    Walk {
-        at: 0,
-        tasks: 0,
-        last: 256,
-        uses: 0,
-        user: 0,
-        least: 0,
-        sum: 0,
+impl Walk {
+    // Before the first record.
+    pub fn start() -> Walk
+        ensures { result ≡ start_walk }
+    {
+        Walk {
+            at: 0,
+            tasks: 0,
+            last: 256,
+            uses: 0,
+            user: 0,
+            least: 0,
+            sum: 0,
+        }
     }
-}
 
-// The walk past a task.
-fn with_task(walk: Walk, task: Task) -> Walk
-    requires { (walk.at < 2 ^ 63) × (walk.tasks < 2 ^ 63) }
-    ensures { result ≡ with_task walk task }
-{
-    Walk {
-        at: walk.at + 20,
-        tasks: walk.tasks + 1,
-        last: u32::from(task.priority),
-        ..walk
+    // Past a task.
+    fn with_task(self, task: Task) -> Walk
+        requires { (self.at < 2 ^ 63) × (self.tasks < 2 ^ 63) }
+        ensures { result ≡ with_task self task }
+    {
+        Walk {
+            at: self.at + 20,
+            tasks: self.tasks + 1,
+            last: u32::from(task.priority),
+            ..self
+        }
     }
-}
 
-// The walk past a use of the task at a place.
-fn with_use(walk: Walk, usage: Use, user: usize) -> Walk
-    requires { (walk.at < 2 ^ 63) × (walk.uses < 2 ^ 63) × (walk.sum < 2 ^ 32) }
-    ensures { result ≡ with_use walk usage user }
-{
-    Walk {
-        at: walk.at + 8,
-        uses: walk.uses + 1,
-        user,
-        least: u32::from(usage.resource) + 1,
-        sum: sum_after(walk, usage, user),
-        ..walk
+    // Past a use of the task at a place.
+    fn with_use(self, usage: Use, user: usize) -> Walk
+        requires { (self.at < 2 ^ 63) × (self.uses < 2 ^ 63) × (self.sum < 2 ^ 32) }
+        ensures { result ≡ with_use self usage user }
+    {
+        Walk {
+            at: self.at + 8,
+            uses: self.uses + 1,
+            user,
+            least: u32::from(usage.resource) + 1,
+            sum: sum_after(self, usage, user),
+            ..self
+        }
     }
-}
 
-// A task record: 19 bytes of body.
-#[tactic(auto, unfolding(crate::specs::Reading::task_step))]
-fn task_step(bytes: &[u8], walk: Walk) -> Result<Walk, Refusal>
-    requires { Sound bytes.now walk }
-    ensures { result ≡ task_step bytes.now walk }
-{
-    let at = walk.at;
-    if bytes.len() - at < 20 {
-        return Err(Why::Cut.at(at));
+    // Over a task record: 19 bytes of body.
+    #[tactic(auto, unfolding(crate::specs::Reading::task_step))]
+    fn task_step(self, bytes: &[u8]) -> Result<Walk, Refusal>
+        requires { Sound bytes.now self }
+        ensures { result ≡ task_step bytes.now self }
+    {
+        let at = self.at;
+        if bytes.len() - at < 20 {
+            return Err(Why::Cut.at(at));
+        }
+        let task = task_at(bytes, at);
+        task_rule(self, task).map_err(|why| why.at(at))?;
+        Ok(self.with_task(task))
     }
-    let task = task_at(bytes, at);
-    task_rule(walk, task).map_err(|why| why.at(at))?;
-    Ok(with_task(walk, task))
-}
 
-// A use record: 7 bytes of body.
-#[tactic(auto, using(crate::proofs::Laws::place_most), unfolding(crate::specs::Reading::use_step))]
-fn use_step(bytes: &[u8], walk: Walk) -> Result<Walk, Refusal>
-    requires { Sound bytes.now walk }
-    ensures { result ≡ use_step bytes.now walk }
-{
-    let at = walk.at;
-    if bytes.len() - at < 8 {
-        return Err(Why::Cut.at(at));
+    // Over a use record: 7 bytes of body.
+    #[tactic(auto, using(crate::proofs::Laws::place_most), unfolding(crate::specs::Reading::use_step))]
+    fn use_step(self, bytes: &[u8]) -> Result<Walk, Refusal>
+        requires { Sound bytes.now self }
+        ensures { result ≡ use_step bytes.now self }
+    {
+        let at = self.at;
+        if bytes.len() - at < 8 {
+            return Err(Why::Cut.at(at));
+        }
+        let usage = use_at(bytes, at);
+        let user = place_of(bytes, self.tasks, self.user, usage.priority);
+        let run = word_at(bytes, 20 * user + 4);
+        use_rule(self, usage, user, run).map_err(|why| why.at(at))?;
+        Ok(self.with_use(usage, user))
     }
-    let usage = use_at(bytes, at);
-    let user = place_of(bytes, walk.tasks, walk.user, usage.priority);
-    let run = word_at(bytes, 20 * user + 4);
-    use_rule(walk, usage, user, run).map_err(|why| why.at(at))?;
-    Ok(with_use(walk, usage, user))
-}
 
-// The end record, which has no body and nothing after it.
-#[tactic(auto, unfolding(crate::specs::Reading::end_step))]
-fn end_step(bytes: &[u8], walk: Walk) -> Result<Shape, Refusal>
-    requires { Sound bytes.now walk }
-    ensures { result ≡ end_step bytes.now walk }
-{
-    let at = walk.at;
-    let tasks = walk.tasks;
-    if tasks == 0 {
-        return Err(Why::Order.at(at));
+    // At the end record, which has no body and nothing after it.
+    #[tactic(auto, unfolding(crate::specs::Reading::end_step))]
+    fn end_step(self, bytes: &[u8]) -> Result<Shape, Refusal>
+        requires { Sound bytes.now self }
+        ensures { result ≡ end_step bytes.now self }
+    {
+        let at = self.at;
+        let tasks = self.tasks;
+        if tasks == 0 {
+            return Err(Why::Order.at(at));
+        }
+        if 1 < bytes.len() - at {
+            return Err(Why::Beyond.at(at + 1));
+        }
+        Ok(Shape {
+            tasks,
+            uses_at: 20 * tasks,
+            uses: self.uses,
+        })
     }
-    if 1 < bytes.len() - at {
-        return Err(Why::Beyond.at(at + 1));
-    }
-    Ok(Shape {
-        tasks,
-        uses_at: 20 * tasks,
-        uses: walk.uses,
-    })
-}
 
-// The record at the walk's place, by its kind.
-#[tactic(auto, unfolding(crate::specs::Reading::step_at))]
-pub fn advance(bytes: &[u8], walk: Walk) -> Result<Step, Refusal>
-    requires { Sound bytes.now walk }
-    ensures { result ≡ step_at bytes.now walk }
-{
-    let at = walk.at;
-    if bytes.len() <= at {
-        return Err(Why::Cut.at(at));
-    }
-    match Kind::of(bytes[at]) {
-        Some(Kind::Task) => Ok(Step::On(task_step(bytes, walk)?)),
-        Some(Kind::Use) => Ok(Step::On(use_step(bytes, walk)?)),
-        Some(Kind::End) => Ok(Step::Done(end_step(bytes, walk)?)),
-        None => Err(Why::Kind.at(at)),
+    // Over the record at the walk's place, by its kind.
+    #[tactic(auto, unfolding(crate::specs::Reading::step_at))]
+    pub fn step(self, bytes: &[u8]) -> Result<Step, Refusal>
+        requires { Sound bytes.now self }
+        ensures { result ≡ step_at bytes.now self }
+    {
+        let at = self.at;
+        let byte = bytes.get(at).ok_or(Why::Cut.at(at))?;
+        match Kind::of(*byte).ok_or(Why::Kind.at(at))? {
+            Kind::Task => Ok(Step::On(self.task_step(bytes)?)),
+            Kind::Use => Ok(Step::On(self.use_step(bytes)?)),
+            Kind::End => Ok(Step::Done(self.end_step(bytes)?)),
+        }
     }
 }
