@@ -1,5 +1,3 @@
-pub mod Numbers
 pub mod Turns
-pub mod Counting
-pub mod Moving
 pub mod Opened
+pub mod Counting

@@ -1,11 +1,15 @@
 -- A scheduler's arrays seen as the machine's table, entries and open sections.
 use Rattle.std.specs.Prelude.{ℕ, zero, suc, ◌+◌, ◌*◌, Bool, false, not, ◌&&◌, List, [], ◌∷◌, ◌++◌, ◌==◌, nat_lt, slice_index, slice_index_or}
-use Rattle.protocol.specs.Tasks.{Table}
-use Rattle.searches.specs.Searches.{Place, nowhere, at, if_here, only}
-use Rattle.protocol.specs.State.{Status, none, ready, waiting, asleep, Entry, Section, State, is_ready, is_asleep}
+use Rattle.searches.specs.Searches.{only}
+use Rattle.protocol.specs.Tasks.{Table, priority, setting}
+use Rattle.protocol.specs.State.{Status, none, ready, waiting, asleep, Entry, Section, serial, holds, is_ready, is_asleep}
 use Rattle.protocol.specs.Running.{in_force}
 use Rattle.protocol.specs.Checks.{numbered}
 use Rattle.protocol.specs.Acting.{section}
+use Rattle.arrays.specs.declared.Number.{Number}
+use Rattle.arrays.specs.declared.tasks.Tasks.{Tasks}
+use Rattle.arrays.specs.declared.entries.Entries.{Entries}
+use Rattle.arrays.specs.declared.sections.Sections.{Sections}
 
 -- a status by its number: 1 ready, 2 waiting, 3 asleep; any other is no job
 abbrev pub status_of : ℕ → Status
@@ -27,22 +31,29 @@ abbrev pub count_of : List ℕ → ℕ → ℕ → ℕ
 count_of l i zero = 0
 count_of l i (suc r) = only (nat_lt r 16) (slice_index l (i * 16 + r))
 
--- a table of n tasks by the arrays of priorities, settings, most sleeps and uses
-abbrev pub tasks_by : ℕ → List ℕ → List ℕ → List ℕ → List ℕ → Table
-tasks_by n priorities settings most uses = record {
-  size = n;
-  task = λ i. record { priority = slice_index priorities i; setting = slice_index settings i; most = slice_index most i; uses = count_of uses i };
+-- ---- the three parts
+
+-- the tasks
+abbrev pub tasks_of : Tasks → Table
+tasks_of t = record {
+  size = t.count;
+  task = λ i. record {
+    priority = slice_index t.priorities i;
+    setting = slice_index t.settings i;
+    most = slice_index t.most i;
+    uses = count_of t.uses i;
+  };
 }
 
--- the entries by the arrays of states, started marks, sleeps, opened sections, held resources and next serials
-abbrev pub entries_by : List ℕ → List Bool → List ℕ → List ℕ → List ℕ → List ℕ → ℕ → Entry
-entries_by states started sleeps opened held serials i = record {
-  status = status_of (slice_index states i);
-  started = slice_index_or started i false;
-  sleeps = slice_index sleeps i;
-  opened = count_of opened i;
-  held = slice_index held i;
-  next = slice_index serials i;
+-- the entry of each task
+abbrev pub entries_of : Entries → ℕ → Entry
+entries_of e i = record {
+  status = status_of (slice_index e.states i);
+  started = slice_index_or e.started i false;
+  sleeps = slice_index e.sleeps i;
+  opened = count_of e.opened i;
+  held = slice_index e.held i;
+  next = slice_index e.serials i;
 }
 
 -- the open sections, n of them, by the arrays of places and resources
@@ -50,32 +61,18 @@ unfoldable pub sections_by : List ℕ → List ℕ → ℕ → List Section
 sections_by places resources zero = []
 sections_by places resources (suc n) = sections_by places resources n ++ (section (slice_index places n) (slice_index resources n) ∷ [])
 
--- a state by its open sections alone
-abbrev pub opening : List Section → State
-opening sections = record { entry = entries_by [] [] [] [] [] []; sections = sections }
+-- the open sections
+abbrev pub sections_of : Sections → List Section
+sections_of s = sections_by s.places s.resources s.count
 
 -- the resource of the last of n open sections, 0 where there is none
 abbrev pub last_open : List ℕ → ℕ → ℕ
 last_open resources zero = 0
 last_open resources (suc n) = slice_index resources n
 
--- ---- what a scan is lent shows a part of them
-
--- n tasks with their priorities and settings
-abbrev pub ranked : ℕ → List ℕ → List ℕ → Table
-ranked n priorities settings = tasks_by n priorities settings [] []
-
--- n tasks with their priorities and uses
-abbrev pub users : ℕ → List ℕ → List ℕ → Table
-users n priorities uses = tasks_by n priorities [] [] uses
-
--- the jobs, with their started marks and the resources that they hold
-abbrev pub jobs : List ℕ → List Bool → List ℕ → ℕ → Entry
-jobs states started held = entries_by states started [] [] held []
-
--- the held resources
-abbrev pub holders : List ℕ → ℕ → Entry
-holders held = entries_by [] [] [] [] held []
+-- the number of the latest job at a place
+abbrev pub number_of : Table → (ℕ → Entry) → ℕ → Number
+number_of T f i = record { priority = priority T i; serial = serial (f i) }
 
 -- ---- tests of a place
 
@@ -84,40 +81,25 @@ abbrev pub eligible_by : ℕ → ℕ → ℕ → ℕ → Bool
 eligible_by state held y p = is_ready (status_of state) && in_force y p (not (held == 0))
 
 -- whether the job at a place is
-abbrev pub eligible_at : List ℕ → List ℕ → List ℕ → ℕ → ℕ → Bool
-eligible_at states held priorities y i = eligible_by (slice_index states i) (slice_index held i) y (slice_index priorities i)
+abbrev pub eligible_under : Table → (ℕ → Entry) → ℕ → ℕ → Bool
+eligible_under T f y i = is_ready (f i).status && in_force y (priority T i) (holds (f i))
+
+-- its priority where it is, else 0
+abbrev pub eligible_priority : Table → (ℕ → Entry) → ℕ → ℕ → ℕ
+eligible_priority T f y i = only (eligible_under T f y i) (priority T i)
 
 -- whether the task has the priority p
-abbrev pub of_priority : List ℕ → ℕ → ℕ → Bool
-of_priority priorities p i = slice_index priorities i == p
+abbrev pub of_priority : Table → ℕ → ℕ → Bool
+of_priority T p i = priority T i == p
 
--- whether the task's latest job has the number p, n
-abbrev pub of_number : List ℕ → List ℕ → ℕ → ℕ → ℕ → Bool
-of_number priorities serials p n = numbered (ranked 0 priorities []) (entries_by [] [] [] [] [] serials) p n
-
--- whether it sleeps under that number
-abbrev pub sleeping : List ℕ → List ℕ → List ℕ → ℕ → ℕ → ℕ → Bool
-sleeping states priorities serials p n i = is_asleep (status_of (slice_index states i)) && of_number priorities serials p n i
+-- whether the task's latest job sleeps under the number p, n
+abbrev pub sleeping : Table → (ℕ → Entry) → ℕ → ℕ → ℕ → Bool
+sleeping T f p n i = is_asleep (f i).status && numbered T f p n i
 
 -- whether the setting is below the priority
-abbrev pub setting_below : List ℕ → List ℕ → ℕ → Bool
-setting_below settings priorities i = nat_lt (slice_index settings i) (slice_index priorities i)
+abbrev pub setting_below : Table → ℕ → Bool
+setting_below T i = nat_lt (setting T i) (priority T i)
 
 -- whether the section in a slot is that of place i and resource r
 abbrev pub is_section : List ℕ → List ℕ → ℕ → ℕ → ℕ → Bool
 is_section places resources i r k = i == slice_index places k && r == slice_index resources k
-
--- ---- places in the code
-
--- a place of a task: 32 is nowhere
-abbrev pub place_of : ℕ → Place
-place_of i = if_here (nat_lt i 32) i
-
--- a slot of the open sections: 16 is nowhere
-abbrev pub slot_of : ℕ → Place
-slot_of i = if_here (nat_lt i 16) i
-
--- a place that passes a test, else nowhere
-abbrev pub passing : (ℕ → Bool) → Place → Place
-passing test nowhere = nowhere
-passing test (at i) = if_here (test i) i

@@ -1,20 +1,26 @@
-// The scans and stores of the lock scheduler, over lent arrays: each is the machine's own search or change, seen on those arrays.
+// The arrays of the lock scheduler in three structs, tasks, entries and open sections: each scan and store is the machine's own search or change.
 #![tactic(auto)]
 
+mod counts;
+mod denial;
+mod entries;
 mod marks;
 mod rules;
 mod scans;
 mod sections;
-mod stores;
+mod status;
+mod tasks;
 
-pub use marks::{admitted, count_if, last_serial, next_serial, one_more, wide};
-pub use rules::{complete_rule, lock_rule, release_rule, suspend_rule, unlock_rule};
-pub use scans::{caller, place_of_priority, running_place, sleeper};
-pub use sections::{ceiling, count_at, is_fit, last_open, section_at};
-pub use stores::{clear, count_one_more, remove, start, wake};
+pub use counts::count_at;
+pub use denial::Denial;
+pub use entries::Entries;
+pub use marks::admitted;
+pub use sections::Sections;
+pub use status::Status;
+pub use tasks::Tasks;
 
 // A job's number: its task's priority and its serial.
-#[derive(Clone, Copy)]
+#[derive(Clone, Copy, PartialEq, Eq, Debug)]
 pub struct Number {
     pub priority: u8,
     pub serial: u16,

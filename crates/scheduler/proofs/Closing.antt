@@ -1,34 +1,35 @@
 -- What a granted unlock does to the arrays is the machine's: the entry freed, the section closed, and the waiting jobs above the new ceiling woken.
-use mathlib.Core.Path.{◌≡◌, refl, sym, ap, ap₂, fun_ext, ◌∙◌}
-use mathlib.Core.Bool.{Bool, true, false, cond, ◌&&◌}
-use mathlib.Core.List.{List}
-use Prim.Native.Nat.{ℕ, zero, suc, ◌-◌, ◌≤◌, ◌<◌}
-use native.Mathlib.Omega.{arith}
+use Rattle.std.proofs.Common.{◌≡◌, ℕ, zero, suc, ◌-◌, ◌<◌, Bool, true, false, ◌&&◌, cond, eqb, ltb, List, get_or, set, refl, sym, ap, ◌∙◌, arith, get_or-set_same, get_or-set_other, lt-ltb, le-ltb, ne_eqb}
+use mathlib.Core.Path.{fun_ext}
 use native.Mathlib.Decide.{dec_lt}
-use lib.Dec.{ltb}
-use lib.ListN.{get_or, set, length-set}
-use lib.Seq.{get_or-set_same, get_or-set_other}
-use borrow.Author.Tests.{lt-ltb, le-ltb}
-use Rattle.searches.specs.Searches.{nowhere, at, first, only}
-use Rattle.protocol.specs.State.{ready, Entry, is_waiting}
-use Rattle.protocol.specs.Running.{ceiling, top}
-use Rattle.protocol.specs.Checks.{unlock}
-use Rattle.protocol.specs.Acting.{section, pick, put, become, freed, without, woken, act}
+use Rattle.searches.specs.Searches.{at, first}
 use Rattle.searches.proofs.Searching.{first_found}
-use Rattle.arrays.specs.View.{status_of, entries_by, sections_by, users, last_open, is_section, slot_of}
+use Rattle.protocol.specs.State.{ready, Entry, is_waiting}
+use Rattle.protocol.specs.Running.{top}
+use Rattle.protocol.specs.Checks.{unlock}
+use Rattle.protocol.specs.Acting.{section, has, pick, become, freed, without, woken, closed}
+use Rattle.arrays.specs.declared.sections.Sections.{Sections}
+use Rattle.arrays.specs.View.{status_of, sections_by, sections_of, is_section}
 use Rattle.arrays.specs.Stores.{Removed, Woken}
-use Rattle.arrays.proofs.Numbers.{waiting_number}
-use Rattle.arrays.proofs.Opened.{last_ceiling}
 use Rattle.scheduler.specs.declared.Scheduler.{Scheduler}
 use Rattle.scheduler.specs.View.{table_of, entry_of, state_of}
+use Rattle.scheduler.specs.Beside.{Beside}
 use Rattle.scheduler.specs.Replies.{number_for}
-use Rattle.scheduler.proofs.Written.{Beside, number_kept, slot_same}
-use Rattle.scheduler.proofs.Storing.{with_entries, with_sections, stored}
+use Rattle.scheduler.proofs.Written.{number_kept}
+use Rattle.scheduler.proofs.Storing.{stored}
 use Rattle.scheduler.proofs.Ends.{Done}
 use Rattle.scheduler.proofs.Asking.{Grants}
-use Rattle.scheduler.proofs.Removing.{not_open, same_low, is_there, section_removed, slot_removed}
+use Rattle.scheduler.proofs.Removing.{is_there, section_removed, slot_removed}
 
 -- ---- waking
+
+-- 2 is waiting
+waiting_number : (x : ℕ) → eqb x 2 ≡ is_waiting (status_of x)
+waiting_number zero = refl
+waiting_number (suc zero) = refl
+waiting_number (suc (suc zero)) = refl
+waiting_number (suc (suc (suc zero))) = refl
+waiting_number (suc (suc (suc (suc n)))) = ne_eqb (suc (suc (suc (suc n)))) 2 (λ e. omega arith)
 
 -- a woken job's number says ready, and any other stays
 woken_status : (e : Entry) (n : ℕ) (d : Bool) → status_of n ≡ e.status → become (status_of (cond d 1 n)) e ≡ pick d (become ready e) e
@@ -36,155 +37,91 @@ woken_status e n true q = refl
 woken_status e n false q = ap (λ x. become x e) q
 
 -- and is right beside the number before
-woken_number_lem : (n : ℕ) (d : Bool) → cond (is_waiting (status_of n) && d) 1 n ≡ number_for n (status_of (cond (is_waiting (status_of n) && d) 1 n))
-woken_number_lem zero d = refl
-woken_number_lem (suc zero) d = refl
-woken_number_lem (suc (suc zero)) true = refl
-woken_number_lem (suc (suc zero)) false = refl
-woken_number_lem (suc (suc (suc zero))) d = refl
-woken_number_lem (suc (suc (suc (suc n)))) d = refl
+woken_right : (n : ℕ) (d : Bool) → cond (is_waiting (status_of n) && d) 1 n ≡ number_for n (status_of (cond (is_waiting (status_of n) && d) 1 n))
+woken_right zero d = refl
+woken_right (suc zero) d = refl
+woken_right (suc (suc zero)) true = refl
+woken_right (suc (suc zero)) false = refl
+woken_right (suc (suc (suc zero))) d = refl
+woken_right (suc (suc (suc (suc n)))) d = refl
 
-module _ (s : Scheduler) (states held : List ℕ) (c : ℕ) (W : Woken s.states s.priorities c s.tasks states) where
-  -- the entries before waking
-  abbrev asleep_yet : ℕ → Entry
-  asleep_yet = entries_by s.states s.started s.sleeps s.opened held s.serials
-
+module _ (s : Scheduler) (states : List ℕ) (c : ℕ) (W : Woken s.entries.states s.tasks.priorities c s.tasks.count states) where
   -- the entries after it are the machine's
-  woken_entry : (k : ℕ) → become (status_of (get_or states k 0)) (asleep_yet k) ≡ woken (table_of s) c asleep_yet k
-  woken_entry k = go (dec_lt k s.tasks)
+  woken_entry : (k : ℕ) → become (status_of (get_or states k 0)) (entry_of s k) ≡ woken (table_of s) c (entry_of s) k
+  woken_entry k = go (dec_lt k s.tasks.count)
     where
-      go : Dec (k < s.tasks) → become (status_of (get_or states k 0)) (asleep_yet k) ≡ woken (table_of s) c asleep_yet k
+      go : Dec (k < s.tasks.count) → become (status_of (get_or states k 0)) (entry_of s k) ≡ woken (table_of s) c (entry_of s) k
       go (yes h) =
-          rw (W.before k h, waiting_number (get_or s.states k 0), lt-ltb k s.tasks h)
-          (woken_status (asleep_yet k) (get_or s.states k 0) (is_waiting (status_of (get_or s.states k 0)) && ltb c (get_or s.priorities k 0)) refl)
-      go (no h) = rw (W.past k (omega arith), le-ltb k s.tasks (omega arith))
+          rw (W.before k h, waiting_number (get_or s.entries.states k 0), lt-ltb k s.tasks.count h)
+          (woken_status (entry_of s k) (get_or s.entries.states k 0)
+          (is_waiting (status_of (get_or s.entries.states k 0)) && ltb c (get_or s.tasks.priorities k 0)) refl)
+      go (no h) = rw (W.past k (omega arith), le-ltb k s.tasks.count (omega arith))
 
   -- with right numbers
-  woken_numbers : (k : ℕ) → get_or states k 0 ≡ number_for (get_or s.states k 0) (status_of (get_or states k 0))
-  woken_numbers k = go (dec_lt k s.tasks)
+  woken_numbers : (k : ℕ) → get_or states k 0 ≡ number_for (get_or s.entries.states k 0) (status_of (get_or states k 0))
+  woken_numbers k = go (dec_lt k s.tasks.count)
     where
-      go : Dec (k < s.tasks) → get_or states k 0 ≡ number_for (get_or s.states k 0) (status_of (get_or states k 0))
-      go (yes h) = rw (W.before k h, waiting_number (get_or s.states k 0)) (woken_number_lem (get_or s.states k 0) (ltb c (get_or s.priorities k 0)))
-      go (no h) = rw (W.past k (omega arith)) (number_kept (get_or s.states k 0))
+      go : Dec (k < s.tasks.count) → get_or states k 0 ≡ number_for (get_or s.entries.states k 0) (status_of (get_or states k 0))
+      go (yes h) =
+          rw (W.before k h, waiting_number (get_or s.entries.states k 0))
+          (woken_right (get_or s.entries.states k 0) (ltb c (get_or s.tasks.priorities k 0)))
+      go (no h) = rw (W.past k (omega arith)) (number_kept (get_or s.entries.states k 0))
+
+-- ---- closing
+
+-- What the code did where the section of the place i and the resource r is in the slot k: it is removed, and the jobs above the ceiling that is
+-- left are woken.
+pub record Closes (s : Scheduler) (i r k : ℕ) (o : Sections) (states : List ℕ) : Type 0 where
+  pub found : first (is_section s.sections.places s.sections.resources i r) s.sections.count ≡ at k
+  pub count : o.count ≡ s.sections.count - 1
+  pub places : Removed s.sections.places k s.sections.count o.places
+  pub resources : Removed s.sections.resources k s.sections.count o.resources
+  pub wakes : Woken s.entries.states s.tasks.priorities (top (table_of s) 0 (sections_of o)) s.tasks.count states
+
+module _ {s : Scheduler} {i r k : ℕ} {o : Sections} {states : List ℕ} (C : Closes s i r k o states) where
+  -- the scheduler after it
+  abbrev after : Scheduler
+  after = record s { entries = record s.entries { states = states }; sections = o }
+
+  -- the machine closes it, too
+  pub closes : state_of after ≡ closed (has (section i r) (sections_of s.sections)) (table_of s) (section i r) (state_of s)
+  closes =
+      let T = table_of s in
+      let p = s.sections.places in
+      let q = s.sections.resources in
+      let n = s.sections.count in
+      let gone : without (section i r) (sections_of s.sections) ≡ sections_of o =
+      section_removed p q i r n k o.places o.resources C.places C.resources C.found ∙ ap (sections_by o.places o.resources) (sym C.count) in
+      rw (is_there p q i r n k o.places o.resources C.places C.resources C.found, gone)
+      (ap (λ f. record { entry = f; sections = sections_of o }) (fun_ext (woken_entry s states (top T 0 (sections_of o)) C.wakes)))
+
+  -- and what the view doesn't show is as it should be
+  pub closes_beside : Beside s after
+  closes_beside =
+      let inside = (first_found (is_section s.sections.places s.sections.resources i r) s.sections.count k C.found).0 in
+      record {
+        same = refl;
+        numbers = woken_numbers s states (top (table_of s) 0 (sections_of o)) C.wakes;
+        places = λ j g. slot_removed s.sections.places o.places k s.sections.count inside C.places j (omega (arith, C.count));
+        resources = λ j g. slot_removed s.sections.resources o.resources k s.sections.count inside C.resources j (omega (arith, C.count));
+      }
 
 -- ---- the call
 
--- one section less is no less than none
-pub one_less : (slot n : ℕ) → only (ltb slot n) 1 ≤ n
-one_less slot n = go (dec_lt slot n)
-  where
-    go : Dec (slot < n) → only (ltb slot n) 1 ≤ n
-    go (yes h) = rw (lt-ltb slot n h) (omega arith)
-    go (no h) = rw (le-ltb slot n (omega arith)) (omega arith)
-
--- What the code did: the section's slot, where it is open, is removed, and so many jobs are looked at above the ceiling that is left.
-pub record Closes (s : Scheduler) (i r slot left : ℕ) (places resources states : List ℕ) : Type 0 where
-  pub found : slot_of slot ≡ first (is_section s.places s.resources i r) s.sections
-  pub places_less : Removed s.places slot s.sections places
-  pub resources_less : Removed s.resources slot s.sections resources
-  pub count : left ≡ s.sections - only (ltb slot s.sections) 1
-  pub last : ℕ
-  pub level : ℕ
-  pub opens : last ≡ last_open resources left
-  pub tops : level ≡ ceiling (users s.tasks s.priorities s.uses) last
-  pub wakes : Woken s.states s.priorities level (only (ltb slot s.sections) s.tasks) states
-
-module _ {s : Scheduler} {p n r i slot left : ℕ} {places resources states : List ℕ} (G : Grants s (unlock p n r) i)
-    (C : Closes s i r slot left places resources states) where
-  -- the scheduler after it
-  abbrev after : Scheduler
-  after = with_sections (with_entries s states s.started s.sleeps s.opened (set s.held i 0) s.serials) left places resources
-
-  -- the entry freed
-  free : entries_by s.states s.started s.sleeps s.opened (set s.held i 0) s.serials ≡ put (entry_of s) i (freed (entry_of s i))
-  free =
-      stored (entry_of s) _ i (freed (entry_of s i)) (rw (get_or-set_same s.held i 0 0 (omega (arith, G.sized.held, G.place))))
-      (λ k ne. rw (get_or-set_other s.held i k 0 0 ne))
-
-  -- What is left of the call: the state, and what the view doesn't show.
-  record Rest : Type 0 where
-    pub acts : state_of after ≡ act (table_of s) (state_of s) (unlock p n r) i
-    pub beside : Beside s after
-
-  -- the section is open: it is closed, and jobs are woken
-  closes : first (is_section s.places s.resources i r) s.sections ≡ at slot → Rest
-  closes f =
-      let T = table_of s in
-      let inside = (first_found (is_section s.places s.resources i r) s.sections slot f).0 in
-      let fewer : left ≡ s.sections - 1 = C.count ∙ ap (λ b. s.sections - only b 1) (lt-ltb slot s.sections inside) in
-      let gone : without (section i r) (state_of s).sections ≡ sections_by places resources left =
-      section_removed s.places s.resources i r s.sections slot places resources C.places_less C.resources_less f
-      ∙ ap (sections_by places resources) (sym fewer) in
-      let ceiling-is : C.level ≡ top T 0 (without (section i r) (state_of s).sections) =
-      C.tops
-      ∙ ap (ceiling (users s.tasks s.priorities s.uses)) C.opens
-      ∙ last_ceiling s.tasks s.priorities s.settings s.most s.uses places resources left
-      ∙ ap (top T 0) (sym gone) in
-      let W : Woken s.states s.priorities C.level s.tasks states = rw (lt-ltb slot s.sections inside) at C.wakes in
-      let entries : entry_of after ≡ woken T (top T 0 (without (section i r) (state_of s).sections)) (put (entry_of s) i (freed (entry_of s i))) =
-      fun_ext (woken_entry s states (set s.held i 0) C.level W)
-      ∙ ap (λ x. woken T x (entries_by s.states s.started s.sleeps s.opened (set s.held i 0) s.serials)) ceiling-is
-      ∙ ap (woken T (top T 0 (without (section i r) (state_of s).sections))) free in
-      record {
-        acts = rw (is_there s.places s.resources i r s.sections slot places resources C.places_less C.resources_less f)
-            (ap₂ (λ g l. record { entry = g; sections = l }) entries (sym gone));
-        beside = record {
-          same = record { tasks = refl; priorities = refl; settings = refl; most = refl; uses = refl };
-          numbers = woken_numbers s states (set s.held i 0) C.level W;
-          places = λ j g. slot_removed s.places places slot s.sections inside C.places_less j (omega (arith, fewer));
-          resources = λ j g. slot_removed s.resources resources slot s.sections inside C.resources_less j (omega (arith, fewer));
-        };
-      }
-
-  -- it isn't: nothing but the entry changes
-  frees : first (is_section s.places s.resources i r) s.sections ≡ nowhere → s.sections ≤ slot → Rest
-  frees f past =
-      let same_count : left ≡ s.sections = omega (arith, C.count, ap (λ b. only b 1) (le-ltb slot s.sections past)) in
-      let same-sections : sections_by places resources left ≡ (state_of s).sections =
-      ap (sections_by places resources) same_count
-      ∙ sym (same_low s.places s.resources i r s.sections slot places resources C.places_less C.resources_less s.sections past) in
-      let same-states : (k : ℕ) → get_or states k 0 ≡ get_or s.states k 0 =
-      λ k. C.wakes.past k (omega (arith, ap (λ b. only b s.tasks) (le-ltb slot s.sections past))) in
-      let entries : entry_of after ≡ put (entry_of s) i (freed (entry_of s i)) = fun_ext (λ k. rw (same-states k)) ∙ free in
-      record {
-        acts = rw (not_open s.places s.resources i r s.sections f) (ap₂ (λ g l. record { entry = g; sections = l }) entries same-sections);
-        beside = record {
-          same = record { tasks = refl; priorities = refl; settings = refl; most = refl; uses = refl };
-          numbers = λ k. rw (same-states k) (number_kept (get_or s.states k 0));
-          places = λ j g.
-              C.places_less.past j (omega (arith, same_count)) ∙ slot_same s.sections j (get_or s.places j 0) (omega (arith, same_count));
-          resources = λ j g.
-              C.resources_less.past j (omega (arith, same_count)) ∙ slot_same s.sections j (get_or s.resources j 0) (omega (arith, same_count));
-        };
-      }
-
-  -- by the slot that the code found
-  rest : Dec (slot < 16) → Rest
-  rest (yes h) = closes (sym C.found ∙ rw (lt-ltb slot 16 h))
-  rest (no h) = frees (sym C.found ∙ rw (le-ltb slot 16 (omega arith))) (omega (arith, G.fits.room))
-
-  -- the whole call
-  pub unlock_done : Done s after (unlock p n r) i
-  unlock_done =
-      let Z = G.sized in
-      let R = rest (dec_lt slot 16) in
-      record {
-        fits = G.fits;
-        grants = G.grants;
-        sized = record {
-          priorities = Z.priorities;
-          settings = Z.settings;
-          most = Z.most;
-          uses = Z.uses;
-          states = C.wakes.long ∙ Z.states;
-          started = Z.started;
-          sleeps = Z.sleeps;
-          opened = Z.opened;
-          held = length-set s.held i 0 ∙ Z.held;
-          serials = Z.serials;
-          places = C.places_less.long ∙ Z.places;
-          resources = C.resources_less.long ∙ Z.resources;
-        };
-        acts = R.acts;
-        beside = R.beside;
-      }
+-- the section is closed after the entry is freed
+pub unlock_done : {s t : Scheduler} {p n r i : ℕ} → Grants s (unlock p n r) i
+    → state_of t ≡ closed (has (section i r) (sections_of s.sections)) (table_of s) (section i r)
+    (state_of (record s { entries = record s.entries { held = set s.entries.held i 0 } }))
+    → Beside (record s { entries = record s.entries { held = set s.entries.held i 0 } }) t → Done s t (unlock p n r) i
+unlock_done {s} {t} {p} {n} {r} {i} G e B =
+    let held = s.entries.held in
+    let u = section i r in
+    record {
+      fits = G.fits;
+      grants = G.grants;
+      acts = e
+          ∙ ap (λ f. closed (has u (sections_of s.sections)) (table_of s) u (record { entry = f; sections = sections_of s.sections }))
+          (stored (entry_of s) _ i (freed (entry_of s i)) (rw (get_or-set_same held i 0 0 (omega (arith, G.sized.held, G.place))))
+          (λ k ne. rw (get_or-set_other held i k 0 0 ne)));
+      beside = record { same = B.same; numbers = B.numbers; places = B.places; resources = B.resources };
+    }

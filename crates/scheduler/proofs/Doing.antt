@@ -1,211 +1,158 @@
 -- What a granted release, resume, suspend or complete does to the arrays is the machine's change of one entry.
-use mathlib.Core.Path.{◌≡◌, refl, ap, ◌∙◌}
-use mathlib.Core.List.{List}
-use mathlib.Core.Bool.{Bool, true, false}
-use Prim.Native.Nat.{ℕ, ◌+◌, ◌<◌}
-use native.Mathlib.Omega.{arith}
+use Rattle.std.proofs.Common.{◌≡◌, ℕ, ◌+◌, ◌<◌, Bool, true, false, List, length, get_or, set, ltb, refl, sym, ap, subst, arith, get_or-set_same, get_or-set_other}
 use native.Mathlib.Decide.{ℕ_discrete}
-use lib.Dec.{ltb}
-use lib.ListN.{length, get_or, set, length-set}
-use lib.Seq.{get_or-set_same, get_or-set_other}
-use borrow.Author.Tests.{eqb-true}
-use Rattle.protocol.specs.State.{Status, none, ready, asleep, following, is_ready}
-use Rattle.protocol.specs.Running.{ceiling, system_ceiling, in_force, running}
-use Rattle.protocol.specs.Checks.{release, resume, suspend, complete}
-use Rattle.searches.specs.Searches.{at}
-use Rattle.protocol.specs.Acting.{become, renewed, slept, admitted_by, admitted}
+use Rattle.protocol.specs.Tasks.{priority}
+use Rattle.protocol.specs.State.{Status, none, ready, waiting, asleep, following}
+use Rattle.protocol.specs.Running.{system_ceiling, in_force}
+use Rattle.protocol.specs.Checks.{Call, release, resume, suspend, complete}
+use Rattle.protocol.specs.Acting.{become, renewed, slept, admitted_by, admitted, act}
 use Rattle.protocol.proofs.Runner.{runs}
-use Rattle.arrays.specs.View.{status_of, own_number, users, last_open}
+use Rattle.arrays.specs.declared.entries.Entries.{Entries}
+use Rattle.arrays.specs.View.{status_of, own_number, entries_of}
 use Rattle.arrays.specs.Stores.{Cleared}
-use Rattle.arrays.proofs.Numbers.{ready_number, own_status}
 use Rattle.scheduler.specs.declared.Scheduler.{Scheduler}
-use Rattle.scheduler.specs.View.{Sized, table_of, entry_of, state_of}
+use Rattle.scheduler.specs.View.{table_of, entry_of, state_of}
 use Rattle.scheduler.specs.Replies.{says, number_for}
-use Rattle.scheduler.proofs.Written.{Beside, number_kept, slot_same}
-use Rattle.scheduler.proofs.Storing.{with_entries, stored}
-use Rattle.scheduler.proofs.Viewing.{ceiling_view}
+use Rattle.scheduler.proofs.Written.{number_kept, slot_same}
+use Rattle.scheduler.proofs.Storing.{stored}
 use Rattle.scheduler.proofs.Ends.{Done}
 use Rattle.scheduler.proofs.Asking.{Grants}
 
 -- ---- numbers of states
 
--- a number stored for another status is that status's own
-pub numbers_set : (l : List ℕ) (i v : ℕ) → i < length l → v ≡ number_for (get_or l i 0) (status_of v)
+-- a status's own number says it
+own_status : (x : Status) → status_of (own_number x) ≡ x
+own_status none = refl
+own_status ready = refl
+own_status waiting = refl
+own_status asleep = refl
+
+-- the number of a new status is that status's own
+numbers_set : (l : List ℕ) (i v : ℕ) (x y : Status) → i < length l → v ≡ own_number y → status_of (get_or l i 0) ≡ x → says x y ≡ false
     → (k : ℕ) → get_or (set l i v) k 0 ≡ number_for (get_or l k 0) (status_of (get_or (set l i v) k 0))
-numbers_set l i v lt e k = go (ℕ_discrete k i)
+numbers_set l i v x y lt e was new k = go (ℕ_discrete k i)
   where
+    here : own_number y ≡ number_for (get_or l i 0) (status_of (own_number y))
+    here = rw (own_status y, was, new)
+
     go : Dec (k ≡ i) → get_or (set l i v) k 0 ≡ number_for (get_or l k 0) (status_of (get_or (set l i v) k 0))
-    go (yes q) = rw (q, get_or-set_same l i v 0 lt) e
+    go (yes q) = rw (q, get_or-set_same l i v 0 lt, e) here
     go (no ne) = rw (get_or-set_other l i k v 0 ne) (number_kept (get_or l k 0))
 
--- a ready job's number
-pub ready_one : (n : ℕ) → status_of n ≡ ready → n ≡ 1
-ready_one n e = eqb-true n 1 (ready_number n ∙ ap is_ready e)
-
--- an admitted job was neither ready nor waiting before
-admitted_number : (n : ℕ) (b : Bool) (x : Status) → status_of n ≡ x → says x (admitted_by b) ≡ false
-    → own_number (admitted_by b) ≡ number_for n (status_of (own_number (admitted_by b)))
-admitted_number n b x e f = rw (own_status (admitted_by b), e, f)
-
--- no job is not one that is admitted
-none_other : (b : Bool) → says none (admitted_by b) ≡ false
-none_other true = refl
-none_other false = refl
-
--- nor is one asleep
-asleep_other : (b : Bool) → says asleep (admitted_by b) ≡ false
-asleep_other true = refl
-asleep_other false = refl
+-- an admitted job was neither out of work nor asleep
+admitted_new : (b : Bool) → (says none (admitted_by b) ≡ false) × (says asleep (admitted_by b) ≡ false)
+admitted_new true = (refl, refl)
+admitted_new false = (refl, refl)
 
 -- ---- entries stored
 
 -- the open sections stay where only entries are stored
-entries_beside : (s : Scheduler) (states : List ℕ) (started : List Bool) (sleeps opened held serials : List ℕ)
-    → ((k : ℕ) → get_or states k 0 ≡ number_for (get_or s.states k 0) (status_of (get_or states k 0)))
-    → Beside s (with_entries s states started sleeps opened held serials)
-entries_beside s states started sleeps opened held serials e = record {
-  same = record { tasks = refl; priorities = refl; settings = refl; most = refl; uses = refl };
-  numbers = e;
-  places = λ k le. slot_same s.sections k (get_or s.places k 0) le;
-  resources = λ k le. slot_same s.sections k (get_or s.resources k 0) le;
-}
-
--- and the lengths
-pub entries_sized : {s : Scheduler} {states : List ℕ} {started : List Bool} {sleeps opened held serials : List ℕ} → Sized s
-    → length states ≡ 32 → length started ≡ 32 → length sleeps ≡ 32 → length opened ≡ 512 → length held ≡ 32 → length serials ≡ 32
-    → Sized (with_entries s states started sleeps opened held serials)
-entries_sized Z a b c d e f = record {
-  priorities = Z.priorities;
-  settings = Z.settings;
-  most = Z.most;
-  uses = Z.uses;
-  states = a;
-  started = b;
-  sleeps = c;
-  opened = d;
-  held = e;
-  serials = f;
-  places = Z.places;
-  resources = Z.resources;
+entries_done : {s : Scheduler} {c : Call} {i : ℕ} (e : Entries) → Grants s c i
+    → record { entry = entries_of e; sections = (state_of s).sections } ≡ act (table_of s) (state_of s) c i
+    → ((k : ℕ) → get_or e.states k 0 ≡ number_for (get_or s.entries.states k 0) (status_of (get_or e.states k 0)))
+    → Done s (record s { entries = e }) c i
+entries_done {s} e G acts numbers = record {
+  fits = G.fits;
+  grants = G.grants;
+  acts = acts;
+  beside = record {
+    same = refl;
+    numbers = numbers;
+    places = λ k le. slot_same s.sections.count k (get_or s.sections.places k 0) le;
+    resources = λ k le. slot_same s.sections.count k (get_or s.sections.resources k 0) le;
+  };
 }
 
 -- ---- the calls of the running job
 
--- a running job's state is 1
-pub runs_one : (s : Scheduler) (i : ℕ) → running in_force (table_of s) (entry_of s) ≡ at i → get_or s.states i 0 ≡ 1
-runs_one s i e = ready_one (get_or s.states i 0) (runs {E = in_force} {T = table_of s} {s = state_of s} e).stands
-
 -- it ends
-pub complete_done : {s : Scheduler} {p n i : ℕ} → Grants s (complete p n) i
-    → Done s (with_entries s (set s.states i 0) s.started s.sleeps s.opened s.held s.serials) (complete p n) i
-complete_done {s} {p} {n} {i} G =
-    let Z = G.sized in
-    let one = runs_one s i G.passed.0.runs in
-    record {
-      fits = G.fits;
-      grants = G.grants;
-      sized = entries_sized Z (length-set s.states i 0 ∙ Z.states) Z.started Z.sleeps Z.opened Z.held Z.serials;
-      acts = ap (λ f. record { entry = f; sections = (state_of s).sections })
-          (stored (entry_of s) _ i (become none (entry_of s i)) (rw (get_or-set_same s.states i 0 0 (omega (arith, Z.states, G.place))))
-          (λ k ne. rw (get_or-set_other s.states i k 0 0 ne)));
-      beside = entries_beside s _ _ _ _ _ _ (numbers_set s.states i 0 (omega (arith, Z.states, G.place)) (rw one));
-    }
+pub complete_done : {s : Scheduler} {p n i v : ℕ} → Grants s (complete p n) i → v ≡ own_number none
+    → Done s (record s { entries = record s.entries { states = set s.entries.states i v } }) (complete p n) i
+complete_done {s} {p} {n} {i} {v} G e =
+    let l = s.entries.states in
+    let lt : i < length l = omega (arith, G.sized.states, G.place) in
+    let was = (runs {E = in_force} {T = table_of s} {s = state_of s} G.passed.0.runs).stands in
+    entries_done (record s.entries { states = set l i v }) G
+    (ap (λ f. record { entry = f; sections = (state_of s).sections })
+    (stored (entry_of s) _ i (become none (entry_of s i)) (rw (get_or-set_same l i v 0 lt, e))
+    (λ k ne. rw (get_or-set_other l i k v 0 ne))))
+    (numbers_set l i v ready none lt e was refl)
 
 -- it falls asleep
-pub suspend_done : {s : Scheduler} {p n i x : ℕ} → Grants s (suspend p n) i → x ≡ get_or s.sleeps i 0 + 1
-    → Done s (with_entries s (set s.states i 3) s.started (set s.sleeps i x) s.opened s.held s.serials) (suspend p n) i
-suspend_done {s} {p} {n} {i} {x} G e =
-    let Z = G.sized in
-    let one = runs_one s i G.passed.0.runs in
-    record {
-      fits = G.fits;
-      grants = G.grants;
-      sized = entries_sized Z (length-set s.states i 3 ∙ Z.states) Z.started (length-set s.sleeps i x ∙ Z.sleeps) Z.opened Z.held
-          Z.serials;
-      acts = ap (λ f. record { entry = f; sections = (state_of s).sections })
-          (stored (entry_of s) _ i (slept (entry_of s i))
-          (rw (
-            get_or-set_same s.states i 3 0 (omega (arith, Z.states, G.place)),
-            get_or-set_same s.sleeps i x 0 (omega (arith, Z.sleeps, G.place)),
-            e,
-          ))
-          (λ k ne. rw (get_or-set_other s.states i k 3 0 ne, get_or-set_other s.sleeps i k x 0 ne)));
-      beside = entries_beside s _ _ _ _ _ _ (numbers_set s.states i 3 (omega (arith, Z.states, G.place)) (rw one));
-    }
+pub suspend_done : {s : Scheduler} {p n i v : ℕ} → Grants s (suspend p n) i → v ≡ own_number asleep
+    → Done s (record s {
+      entries = record s.entries {
+        states = set s.entries.states i v;
+        sleeps = set s.entries.sleeps i (get_or s.entries.sleeps i 0 + 1);
+      };
+    }) (suspend p n) i
+suspend_done {s} {p} {n} {i} {v} G e =
+    let l = s.entries.states in
+    let m = s.entries.sleeps in
+    let x = get_or m i 0 + 1 in
+    let lt : i < length l = omega (arith, G.sized.states, G.place) in
+    let was = (runs {E = in_force} {T = table_of s} {s = state_of s} G.passed.0.runs).stands in
+    entries_done (record s.entries { states = set l i v; sleeps = set m i x }) G
+    (ap (λ f. record { entry = f; sections = (state_of s).sections })
+    (stored (entry_of s) _ i (slept (entry_of s i))
+    (rw (get_or-set_same l i v 0 lt, get_or-set_same m i x 0 (omega (arith, G.sized.sleeps, G.place)), e))
+    (λ k ne. rw (get_or-set_other l i k v 0 ne, get_or-set_other m i k x 0 ne))))
+    (numbers_set l i v ready asleep lt e was refl)
 
 -- ---- admission
 
--- The state that the code admits a job with, above the system ceiling or not.
-pub record Admits (s : Scheduler) (i v : ℕ) : Type 0 where
-  pub level : ℕ
-  pub last : ℕ
-  pub opens : last ≡ last_open s.resources s.sections
-  pub tops : level ≡ ceiling (users s.tasks s.priorities s.uses) last
-  pub number : v ≡ own_number (admitted_by (ltb level (get_or s.priorities i 0)))
-
-module _ {s : Scheduler} {i v : ℕ} (A : Admits s i v) where
-  -- the system ceiling
-  level_is : A.level ≡ system_ceiling (table_of s) (state_of s)
-  level_is = A.tops ∙ ap (ceiling (users s.tasks s.priorities s.uses)) A.opens ∙ ceiling_view s
-
-  -- says the machine's status
-  admits_status : status_of v ≡ admitted (table_of s) (system_ceiling (table_of s) (state_of s)) i
-  admits_status = rw (A.number, ← level_is) (own_status (admitted_by (ltb A.level (get_or s.priorities i 0))))
-
-  -- by its own number, after no job or a sleep
-  admits_number : (x : Status) → ((b : Bool) → says x (admitted_by b) ≡ false) → status_of (get_or s.states i 0) ≡ x
-      → v ≡ number_for (get_or s.states i 0) (status_of v)
-  admits_number x other e =
-      let b = ltb A.level (get_or s.priorities i 0) in
-      rw A.number (admitted_number (get_or s.states i 0) b x e (other b))
+-- the status that a job is admitted with
+abbrev pub admission : Scheduler → ℕ → Status
+admission s i = admitted (table_of s) (system_ceiling (table_of s) (state_of s)) i
 
 -- a sleeping job wakes
-pub resume_done : {s : Scheduler} {p n i v : ℕ} → Grants s (resume p n) i → Admits s i v
-    → Done s (with_entries s (set s.states i v) s.started s.sleeps s.opened s.held s.serials) (resume p n) i
-resume_done {s} {p} {n} {i} {v} G A =
-    let Z = G.sized in
-    record {
-      fits = G.fits;
-      grants = G.grants;
-      sized = entries_sized Z (length-set s.states i v ∙ Z.states) Z.started Z.sleeps Z.opened Z.held Z.serials;
-      acts = ap (λ f. record { entry = f; sections = (state_of s).sections })
-          (stored (entry_of s) _ i (become (admitted (table_of s) (system_ceiling (table_of s) (state_of s)) i) (entry_of s i))
-          (rw (get_or-set_same s.states i v 0 (omega (arith, Z.states, G.place)), admits_status A))
-          (λ k ne. rw (get_or-set_other s.states i k v 0 ne)));
-      beside = entries_beside s _ _ _ _ _ _
-          (numbers_set s.states i v (omega (arith, Z.states, G.place)) (admits_number A asleep asleep_other G.passed.2));
-    }
+pub resume_done : {s : Scheduler} {p n i v : ℕ} → Grants s (resume p n) i → v ≡ own_number (admission s i)
+    → Done s (record s { entries = record s.entries { states = set s.entries.states i v } }) (resume p n) i
+resume_done {s} {p} {n} {i} {v} G e =
+    let l = s.entries.states in
+    let lt : i < length l = omega (arith, G.sized.states, G.place) in
+    let new = admitted_new (ltb (system_ceiling (table_of s) (state_of s)) (priority (table_of s) i)) in
+    entries_done (record s.entries { states = set l i v }) G
+    (ap (λ f. record { entry = f; sections = (state_of s).sections })
+    (stored (entry_of s) _ i (become (admission s i) (entry_of s i))
+    (rw (get_or-set_same l i v 0 lt, e, own_status (admission s i)))
+    (λ k ne. rw (get_or-set_other l i k v 0 ne))))
+    (numbers_set l i v asleep (admission s i) lt e G.passed.2 new.1)
 
 -- a job begins
-pub release_done : {s : Scheduler} {p i v w : ℕ} {opened : List ℕ} → Grants s (release p) i → Admits s i v → w ≡ following (get_or s.serials i 0)
-    → Cleared s.opened i opened
-    → Done s (with_entries s (set s.states i v) (set s.started i false) (set s.sleeps i 0) opened s.held (set s.serials i w))
-    (release p) i
-release_done {s} {p} {i} {v} {w} {opened} G A e C =
+pub release_done : {s : Scheduler} {p i v : ℕ} {after : Entries} → Grants s (release p) i → v ≡ own_number (admission s i)
+    → Cleared s.entries.opened i after.opened
+    → after ≡ record s.entries {
+      states = set s.entries.states i v;
+      started = set s.entries.started i false;
+      sleeps = set s.entries.sleeps i 0;
+      opened = after.opened;
+      serials = set s.entries.serials i (following (get_or s.entries.serials i 0));
+    } → Done s (record s { entries = after }) (release p) i
+release_done {s} {p} {i} {v} {after} G e C rest =
+    let E = s.entries in
+    let w = following (get_or E.serials i 0) in
     let Z = G.sized in
-    record {
-      fits = G.fits;
-      grants = G.grants;
-      sized = entries_sized Z (length-set s.states i v ∙ Z.states) (length-set s.started i false ∙ Z.started)
-          (length-set s.sleeps i 0 ∙ Z.sleeps) (C.long ∙ Z.opened) Z.held (length-set s.serials i w ∙ Z.serials);
-      acts = ap (λ f. record { entry = f; sections = (state_of s).sections })
-          (stored (entry_of s) _ i (renewed (admitted (table_of s) (system_ceiling (table_of s) (state_of s)) i) (entry_of s i))
-          (rw (
-            get_or-set_same s.states i v 0 (omega (arith, Z.states, G.place)),
-            get_or-set_same s.started i false false (omega (arith, Z.started, G.place)),
-            get_or-set_same s.sleeps i 0 0 (omega (arith, Z.sleeps, G.place)),
-            get_or-set_same s.serials i w 0 (omega (arith, Z.serials, G.place)),
-            C.here,
-            e,
-            admits_status A,
-          ))
-          (λ k ne. rw (
-            get_or-set_other s.states i k v 0 ne,
-            get_or-set_other s.started i k false false ne,
-            get_or-set_other s.sleeps i k 0 0 ne,
-            get_or-set_other s.serials i k w 0 ne,
-            C.others k ne,
-          )));
-      beside = entries_beside s _ _ _ _ _ _
-          (numbers_set s.states i v (omega (arith, Z.states, G.place)) (admits_number A none none_other G.passed.2));
-    }
+    let lt : i < length E.states = omega (arith, Z.states, G.place) in
+    let new = admitted_new (ltb (system_ceiling (table_of s) (state_of s)) (priority (table_of s) i)) in
+    subst (λ f. Done s (record s { entries = f }) (release p) i) (sym rest)
+    (entries_done _ G
+    (ap (λ f. record { entry = f; sections = (state_of s).sections })
+    (stored (entry_of s) _ i (renewed (admission s i) (entry_of s i))
+    (rw (
+      get_or-set_same E.states i v 0 lt,
+      get_or-set_same E.started i false false (omega (arith, Z.started, G.place)),
+      get_or-set_same E.sleeps i 0 0 (omega (arith, Z.sleeps, G.place)),
+      get_or-set_same E.serials i w 0 (omega (arith, Z.serials, G.place)),
+      C.here,
+      e,
+      own_status (admission s i),
+    ))
+    (λ k ne. rw (
+      get_or-set_other E.states i k v 0 ne,
+      get_or-set_other E.started i k false false ne,
+      get_or-set_other E.sleeps i k 0 0 ne,
+      get_or-set_other E.serials i k w 0 ne,
+      C.others k ne,
+    ))))
+    (numbers_set E.states i v none (admission s i) lt e G.passed.2 new.0))

@@ -23,9 +23,8 @@ use Rattle.arrays.proofs.Opened.{sections_length}
 use Rattle.scheduler.specs.declared.Scheduler.{Scheduler}
 use Rattle.scheduler.specs.View.{Sized, table_of, entry_of, state_of}
 use Rattle.scheduler.specs.Replies.{says, number_for, slot_for, written, replied}
-use Rattle.scheduler.proofs.Written.{section_at}
+use Rattle.scheduler.proofs.Written.{beside_self, section_at, written_again}
 use Rattle.scheduler.proofs.Viewing.{Fit, fit_known}
-use Rattle.scheduler.proofs.Ends.{unfit_replied}
 use Rattle.scheduler.proofs.Reach.{step_past, step_unused, step_few}
 
 -- ---- an array by its places, read again
@@ -95,21 +94,21 @@ counts_past l e k h (suc r) = go (ltb r 16)
 entry_past : {s : Scheduler} → Sized s → (k : ℕ) → 32 ≤ k
     → entry_of s k ≡ record { status = none; started = false; sleeps = 0; opened = λ r. 0; held = 0; next = 0 }
 entry_past {s} Z k h =
-    let status = ap status_of (past_end s.states 32 k 0 Z.states h) in
-    let started = past_end s.started 32 k false Z.started h in
-    let sleeps = past_end s.sleeps 32 k 0 Z.sleeps h in
-    let opened = fun_ext (counts_past s.opened Z.opened k h) in
-    let held = past_end s.held 32 k 0 Z.held h in
-    let next = past_end s.serials 32 k 0 Z.serials h in
+    let status = ap status_of (past_end s.entries.states 32 k 0 Z.states h) in
+    let started = past_end s.entries.started 32 k false Z.started h in
+    let sleeps = past_end s.entries.sleeps 32 k 0 Z.sleeps h in
+    let opened = fun_ext (counts_past s.entries.opened Z.opened k h) in
+    let held = past_end s.entries.held 32 k 0 Z.held h in
+    let next = past_end s.entries.serials 32 k 0 Z.serials h in
     λ i. record { status = status i; started = started i; sleeps = sleeps i; opened = opened i; held = held i; next = next i }
 
 module _ (s : Scheduler) (Z : Sized s) (t : State) (B : Storable s t) where
   -- the counts, written and seen
-  counts_seen : (k : ℕ) → k < 32 → (r : ℕ) → count_of (written s t).opened k r ≡ (t.entry k).opened r
+  counts_seen : (k : ℕ) → k < 32 → (r : ℕ) → count_of (written s t).entries.opened k r ≡ (t.entry k).opened r
   counts_seen k h zero = sym (B.low k)
   counts_seen k h (suc r) = go (dec_lt r 16)
     where
-      go : Dec (r < 16) → only (ltb r 16) (get_or (written s t).opened (k * 16 + r) 0) ≡ (t.entry k).opened (suc r)
+      go : Dec (r < 16) → only (ltb r 16) (get_or (written s t).entries.opened (k * 16 + r) 0) ≡ (t.entry k).opened (suc r)
       go (yes lt) =
           let q : (k * 16 + r) / 16 ≡ k = omega arith in
           let m : (k * 16 + r) % 16 + 1 ≡ suc r = omega arith in
@@ -120,8 +119,8 @@ module _ (s : Scheduler) (Z : Sized s) (t : State) (B : Storable s t) where
   -- an entry within the arrays
   entry_seen : (k : ℕ) → k < 32 → entry_of (written s t) k ≡ t.entry k
   entry_seen k h =
-      let status = ap status_of (every_at (λ j. number_for (get_or s.states j 0) (t.entry j).status) 32 k 0 h)
-      ∙ number_says (get_or s.states k 0) (t.entry k).status in
+      let status = ap status_of (every_at (λ j. number_for (get_or s.entries.states j 0) (t.entry j).status) 32 k 0 h)
+      ∙ number_says (get_or s.entries.states k 0) (t.entry k).status in
       let started = every_at (λ j. (t.entry j).started) 32 k false h in
       let sleeps = every_at (λ j. (t.entry j).sleeps) 32 k 0 h in
       let opened = fun_ext (counts_seen k h) in
@@ -139,18 +138,18 @@ module _ (s : Scheduler) (Z : Sized s) (t : State) (B : Storable s t) where
 
   -- the slot of an open section
   slot_seen : (field : Section → ℕ) (before : List ℕ) (k : ℕ) → k < length t.sections
-      → get_or (every (slot_for field t.sections s.sections before) 16 0) k 0 ≡ field (get_or t.sections k (section 0 0))
+      → get_or (every (slot_for field t.sections s.sections.count before) 16 0) k 0 ≡ field (get_or t.sections k (section 0 0))
   slot_seen field before k h =
-      every_at (slot_for field t.sections s.sections before) 16 k 0 (omega (arith, B.few)) ∙ rw (lt-ltb k (length t.sections) h)
+      every_at (slot_for field t.sections s.sections.count before) 16 k 0 (omega (arith, B.few)) ∙ rw (lt-ltb k (length t.sections) h)
 
   -- and so the open sections are
   sections_seen : (state_of (written s t)).sections ≡ t.sections
   sections_seen =
-      let size = sections_length (written s t).places (written s t).resources (length t.sections) in
+      let size = sections_length (written s t).sections.places (written s t).sections.resources (length t.sections) in
       ext_get_or (section 0 0) _ t.sections size
       (λ k lt.
-      section_at (written s t).places (written s t).resources (length t.sections) k (omega arith)
-      ∙ ap₂ section (slot_seen (λ u. u.place) s.places k (omega arith)) (slot_seen (λ u. u.resource) s.resources k (omega arith)))
+      section_at (written s t).sections.places (written s t).sections.resources (length t.sections) k (omega arith)
+      ∙ ap₂ section (slot_seen (λ u. u.place) s.sections.places k (omega arith)) (slot_seen (λ u. u.resource) s.sections.resources k (omega arith)))
 
   -- what is written is seen
   written_seen : state_of (written s t) ≡ t
@@ -165,7 +164,7 @@ module _ {s : Scheduler} (Z : Sized s) (c : Call) where
     past = λ k h. step_past in_force (table_of s) (state_of s) k (omega (arith, F.few)) c;
     low = step_unused in_force (table_of s) (state_of s) 0 (λ i. refl) (λ i. refl) c;
     high = λ k r h. step_unused in_force (table_of s) (state_of s) (suc r) (λ i. rw (le-ltb r 16 h)) (λ i. rw (le-ltb r 16 h)) c k;
-    few = step_few in_force (table_of s) (state_of s) (omega (arith, F.room, sections_length s.places s.resources s.sections)) c;
+    few = step_few in_force (table_of s) (state_of s) (omega (arith, F.room, sections_length s.sections.places s.sections.resources s.sections.count)) c;
   }
 
   -- an unfit state stays
@@ -179,7 +178,8 @@ module _ {s : Scheduler} (Z : Sized s) (c : Call) where
     where
       go : (b : Bool) → fit (table_of s) (state_of s) ≡ b → state_of (replied s c).state ≡ (step in_force (table_of s) (state_of s) c).state
       go true e = written_seen s Z (step in_force (table_of s) (state_of s) c).state (next_storable (fit_known s e))
-      go false e = sym (ap (λ r. state_of r.state) (unfit_replied c Z e)) ∙ sym (unfit_keeps e)
+      go false e =
+          ap (λ t. state_of (written s t)) (unfit_keeps e) ∙ sym (ap state_of (written_again Z (beside_self s))) ∙ sym (unfit_keeps e)
 
   -- its table is the same
   pub replied_keeps : table_of (replied s c).state ≡ table_of s

@@ -3,8 +3,9 @@ pub mod Written
 pub mod Settles
 pub mod Storing
 pub mod Viewing
-pub mod Ends
+pub mod Naming
 pub mod Asking
+pub mod Ends
 pub mod Doing
 pub mod Opening
 pub mod Removing

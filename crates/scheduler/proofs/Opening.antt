@@ -1,23 +1,16 @@
 -- What a granted lock does to the arrays is the machine's: one count more, the resource held, and a section more.
-use mathlib.Core.Path.{◌≡◌, refl, ap₂, ◌∙◌}
-use mathlib.Core.List.{List, [], ◌∷◌, ◌++◌}
-use Prim.Native.Nat.{ℕ, zero, suc, ◌+◌, ◌≤◌, ◌<◌}
-use native.Mathlib.Omega.{arith}
-use native.Mathlib.Numerals.{add-one}
-use lib.Dec.{leb}
-use lib.ListN.{length, get_or, set, length-set}
-use lib.Seq.{get_or-set_same, get_or-set_other}
-use borrow.Author.Tests.{le-leb}
+use Rattle.std.proofs.Common.{◌≡◌, ℕ, zero, suc, ◌+◌, ◌<◌, ◌≤◌, List, [], ◌∷◌, ◌++◌, length, get_or, set, leb, refl, sym, subst, ap₂, arith, add-one, get_or-set_same, get_or-set_other, le-leb}
 use Rattle.searches.specs.Searches.{only}
 use Rattle.protocol.specs.Checks.{lock}
 use Rattle.protocol.specs.Acting.{section, locked}
+use Rattle.arrays.specs.declared.entries.Entries.{Entries}
+use Rattle.arrays.specs.declared.sections.Sections.{Sections}
 use Rattle.arrays.specs.View.{sections_by}
 use Rattle.arrays.specs.Stores.{Counted}
-use Rattle.arrays.proofs.Opened.{sections_length}
 use Rattle.scheduler.specs.declared.Scheduler.{Scheduler}
 use Rattle.scheduler.specs.View.{entry_of}
 use Rattle.scheduler.proofs.Written.{number_kept}
-use Rattle.scheduler.proofs.Storing.{with_entries, with_sections, stored}
+use Rattle.scheduler.proofs.Storing.{stored}
 use Rattle.scheduler.proofs.Ends.{Done}
 use Rattle.scheduler.proofs.Asking.{Grants}
 
@@ -42,44 +35,35 @@ slot_kept l n x k le = rw (get_or-set_other l n k x 0 (λ e. omega arith), le-le
 
 -- ---- the call
 
--- there is room for it
-pub lock_slot : {s : Scheduler} {p n r i : ℕ} → Grants s (lock p n r) i → s.sections < 16
-lock_slot {s} G = omega (arith, G.passed.3, sections_length s.places s.resources s.sections)
-
 -- the section is opened
-pub lock_done : {s : Scheduler} {p n r i : ℕ} {opened : List ℕ} → Grants s (lock p n r) i → Counted s.opened i r opened
-    → Done s (with_sections (with_entries s s.states s.started s.sleeps opened (set s.held i r) s.serials)
-    (s.sections + 1) (set s.places s.sections i) (set s.resources s.sections r)) (lock p n r) i
-lock_done {s} {p} {n} {r} {i} {opened} G C =
+pub lock_done : {s : Scheduler} {p n r i : ℕ} {after : Entries} → Grants s (lock p n r) i → s.sections.count < 16
+    → Counted s.entries.opened i r after.opened → after ≡ record s.entries { opened = after.opened; held = set s.entries.held i r }
+    → Done s (record {
+      tasks = s.tasks;
+      entries = after;
+      sections = record {
+        count = s.sections.count + 1;
+        places = set s.sections.places s.sections.count i;
+        resources = set s.sections.resources s.sections.count r;
+      };
+    }) (lock p n r) i
+lock_done {s} {p} {n} {r} {i} {after} G room C rest =
     let Z = G.sized in
-    let room : s.sections < 16 = lock_slot G in
-    let m = s.sections in
-    record {
+    let o = s.sections in
+    let held = s.entries.held in
+    let count = o.count in
+    let opened : Sections = record { count = count + 1; places = set o.places count i; resources = set o.resources count r } in
+    subst (λ e. Done s (record { tasks = s.tasks; entries = e; sections = opened }) (lock p n r) i) (sym rest) (record {
       fits = G.fits;
       grants = G.grants;
-      sized = record {
-        priorities = Z.priorities;
-        settings = Z.settings;
-        most = Z.most;
-        uses = Z.uses;
-        states = Z.states;
-        started = Z.started;
-        sleeps = Z.sleeps;
-        opened = C.long ∙ Z.opened;
-        held = length-set s.held i r ∙ Z.held;
-        serials = Z.serials;
-        places = length-set s.places m i ∙ Z.places;
-        resources = length-set s.resources m r ∙ Z.resources;
-      };
       acts = ap₂ (λ f l. record { entry = f; sections = l })
-          (stored (entry_of s) _ i (locked r (entry_of s i))
-          (rw (get_or-set_same s.held i r 0 (omega (arith, Z.held, G.place)), C.here))
-          (λ k ne. rw (get_or-set_other s.held i k r 0 ne, C.others k ne)))
-          (section_added s.places s.resources m i r (omega (arith, Z.places)) (omega (arith, Z.resources)));
+          (stored (entry_of s) _ i (locked r (entry_of s i)) (rw (get_or-set_same held i r 0 (omega (arith, Z.held, G.place)), C.here))
+          (λ k ne. rw (get_or-set_other held i k r 0 ne, C.others k ne)))
+          (section_added o.places o.resources count i r (omega (arith, Z.places)) (omega (arith, Z.resources)));
       beside = record {
-        same = record { tasks = refl; priorities = refl; settings = refl; most = refl; uses = refl };
-        numbers = λ k. number_kept (get_or s.states k 0);
-        places = λ k le. slot_kept s.places m i k le;
-        resources = λ k le. slot_kept s.resources m r k le;
+        same = refl;
+        numbers = λ k. number_kept (get_or s.entries.states k 0);
+        places = λ k le. slot_kept o.places count i k le;
+        resources = λ k le. slot_kept o.resources count r k le;
       };
-    }
+    })

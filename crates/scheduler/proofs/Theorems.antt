@@ -23,8 +23,9 @@ use Rattle.table.specs.declared.Shape.{Shape}
 use Rattle.table.specs.declared.Reading.TheVariants as reading
 use Rattle.table.specs.Reading.{read_table}
 use Rattle.table.proofs.Accepted.{well_formed}
+use Rattle.std.proofs.Common.{None}
+use Rattle.arrays.specs.Denials.{denial_of, refusal_number}
 use Rattle.scheduler.specs.declared.Scheduler.{Scheduler}
-use Rattle.scheduler.specs.declared.Running.{Running}
 use Rattle.scheduler.specs.declared.Reply.{Reply}
 use Rattle.scheduler.specs.View.{Sized, table_of, state_of}
 use Rattle.scheduler.specs.Replies.{running_of, written, replied}
@@ -32,18 +33,19 @@ use Rattle.scheduler.specs.Fresh.{fresh_of, set_up}
 use Rattle.scheduler.specs.Driven.{Driven, event_if, told}
 use Rattle.scheduler.proofs.Written.{beside_self, written_again}
 use Rattle.scheduler.proofs.Following.{replied_follows, replied_sized}
+use Rattle.scheduler.proofs.Naming.{refusal_kept}
 use Rattle.scheduler.proofs.Events.{event_told, granted_to}
 use Rattle.scheduler.proofs.Beginning.{fresh_view, fresh_sized, fresh_accepted, set_up_fresh}
 
 -- a refused call leaves the scheduler as it is, to the last byte
-pub refused_same : {s : Scheduler} → Sized s → (c : Call) → ((replied s c).refusal ≡ 0 → ⊥) → (replied s c).state ≡ s
+pub refused_same : {s : Scheduler} → Sized s → (c : Call) → (refusal_number (replied s c).refusal ≡ 0 → ⊥) → (replied s c).state ≡ s
 unfolding machine.step
 refused_same {s} Z c n = go (ruling in_force (table_of s) (state_of s) c) refl
   where
     go : (q : Ruling) → ruling in_force (table_of s) (state_of s) c ≡ q → (replied s c).state ≡ s
     go (refuse k) e =
         ap (written s) (refused_keeps in_force (table_of s) (state_of s) c k e) ∙ sym (written_again Z (beside_self s))
-    go (grant i) e = absurd (n (ap (λ q. (machine.answer in_force (table_of s) (state_of s) c q).refusal) e))
+    go (grant i) e = absurd (n (ap (λ q. refusal_number (denial_of (machine.answer in_force (table_of s) (state_of s) c q).refusal)) e))
 
 -- ---- calls one after the other
 
@@ -100,7 +102,7 @@ module _ {bytes : List ℕ} {h : Shape} {calls : ℕ → Call} {S : ℕ → Sche
   pub event_is : (k : ℕ) → told (R k) (calls k) ≡ event in_force T calls k
   event_is k =
       ap (λ r. told r (calls k)) (D.replies k)
-      ∙ ap (λ m. event_if (eqb m.refusal 0) (calls k)) (step_by k (state_is k))
+      ∙ ap (λ m. event_if (eqb (refusal_number (denial_of m.refusal)) 0) (calls k)) (step_by k (state_is k))
       ∙ event_told in_force T (after in_force T calls k) (calls k)
 
   -- names the job that the machine's names
@@ -108,8 +110,10 @@ module _ {bytes : List ℕ} {h : Shape} {calls : ℕ → Call} {S : ℕ → Sche
   running_is k = ap (λ r. r.running) (D.replies k) ∙ ap (λ m. running_of m.running) (step_by k (state_is k))
 
   -- and has the machine's refusal
-  pub refusal_is : (k : ℕ) → (R k).refusal ≡ (machine.step in_force T (after in_force T calls k) (calls k)).refusal
-  refusal_is k = ap (λ r. r.refusal) (D.replies k) ∙ ap (λ m. m.refusal) (step_by k (state_is k))
+  pub refusal_is : (k : ℕ) → refusal_number (R k).refusal ≡ (machine.step in_force T (after in_force T calls k) (calls k)).refusal
+  refusal_is k =
+      ap (λ r. refusal_number r.refusal) (D.replies k) ∙ ap (λ m. refusal_number (denial_of m.refusal)) (step_by k (state_is k))
+      ∙ refusal_kept in_force T (after in_force T calls k) (calls k)
 
   -- what holds of the machine's states and events holds of the scheduler's
   seen : (Q : (ℕ → Table) → (ℕ → State) → (ℕ → Event) → Type 0) → Q (λ k. T) (after in_force T calls) (event in_force T calls)
@@ -137,15 +141,15 @@ module _ {bytes : List ℕ} {h : Shape} {calls : ℕ → Call} {S : ℕ → Sche
   -- ---- idling
 
   -- a reply of idle is the machine's
-  idle_told : (k : ℕ) → (R k).running ≡ Running.Idle → (machine.step in_force T (after in_force T calls k) (calls k)).running ≡ machine.idle
+  idle_told : (k : ℕ) → (R k).running ≡ None → (machine.step in_force T (after in_force T calls k) (calls k)).running ≡ machine.idle
   idle_told k e = go (machine.step in_force T (after in_force T calls k) (calls k)).running (sym (running_is k) ∙ e)
     where
-      go : (r : machine.Running) → running_of r ≡ Running.Idle → r ≡ machine.idle
+      go : (r : machine.Running) → running_of r ≡ None → r ≡ machine.idle
       go machine.Running.idle q = refl
       go (machine.Running.job p n) q = absurd (impossible cc)
 
   -- a call replies idle only where no section is open, and every unfinished job sleeps or is behind one that does
-  pub calls_idle_only : (k : ℕ) → (R k).running ≡ Running.Idle → Idle (table_of (S (suc k))) (state_of (S (suc k)))
+  pub calls_idle_only : (k : ℕ) → (R k).running ≡ None → Idle (table_of (S (suc k))) (state_of (S (suc k)))
   unfolding after
   calls_idle_only k e =
       seen (λ U s ev. Idle (U (suc k)) (s (suc k)))
@@ -154,15 +158,15 @@ module _ {bytes : List ℕ} {h : Shape} {calls : ℕ → Call} {S : ℕ → Sche
 
   -- so where some job is unfinished and none sleeps, it names one that runs
   pub calls_never_idle : (k i : ℕ) → (((state_of (S (suc k))).entry i).status ≡ none → ⊥)
-      → ((j : ℕ) → ((state_of (S (suc k))).entry j).status ≡ asleep → ⊥) → (R k).running ≡ Running.Idle → ⊥
+      → ((j : ℕ) → ((state_of (S (suc k))).entry j).status ≡ asleep → ⊥) → (R k).running ≡ None → ⊥
   calls_never_idle k i u n e = let w = someone_sleeps (calls_idle_only k e) i u in n w.0 w.1
 
   -- ---- job numbers
 
   -- only the one who is entitled to a call has it accepted
-  pub calls_entitled : (k : ℕ) → (R k).refusal ≡ 0 → Entitled in_force (table_of (S k)) (state_of (S k)) (calls k)
+  pub calls_entitled : (k : ℕ) → refusal_number (R k).refusal ≡ 0 → Entitled in_force (table_of (S k)) (state_of (S k)) (calls k)
   calls_entitled k e =
-      let g = granted_to in_force (table_of (S k)) (state_of (S k)) (calls k) (sym (ap (λ r. r.refusal) (D.replies k)) ∙ e) in
+      let g = granted_to in_force (table_of (S k)) (state_of (S k)) (calls k) (sym (refusal_kept in_force (table_of (S k)) (state_of (S k)) (calls k)) ∙ sym (ap (λ r. refusal_number r.refusal) (D.replies k)) ∙ e) in
       entitled in_force (table_of (S k)) (state_of (S k)) (calls k) g.0 g.1
 
   -- a job's number comes back just when the releases of its task between are a multiple of 65,536

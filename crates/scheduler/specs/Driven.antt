@@ -5,6 +5,7 @@ use Rattle.protocol.specs.Trace.{Event, nothing, accepted}
 use Rattle.table.specs.declared.Shape.{Shape}
 use Rattle.table.specs.declared.Reading.TheVariants.{Accepted}
 use Rattle.table.specs.Reading.{read_table}
+use Rattle.arrays.specs.Denials.{refusal_number}
 use Rattle.scheduler.specs.declared.Scheduler.{Scheduler}
 use Rattle.scheduler.specs.declared.Reply.{Reply}
 use Rattle.scheduler.specs.Replies.{replied}
@@ -24,4 +25,4 @@ event_if false c = nothing
 
 -- what a call brings about, told by the refusal in its reply alone
 abbrev pub told : Reply → Call → Event
-told r c = event_if (eqb r.refusal 0) c
+told r c = event_if (eqb (refusal_number r.refusal) 0) c

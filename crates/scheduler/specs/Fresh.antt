@@ -14,20 +14,16 @@ use Rattle.scheduler.specs.declared.setup.SetUp.{SetUp}
 -- no job yet: the rules of the tasks, and zeros
 abbrev pub fresh_with : ℕ → List ℕ → List ℕ → List ℕ → List ℕ → Scheduler
 fresh_with tasks priorities settings most uses = record {
-  tasks = tasks;
-  sections = 0;
-  priorities = priorities;
-  settings = settings;
-  most = most;
-  uses = uses;
-  states = replicate 32 0;
-  started = replicate 32 false;
-  sleeps = replicate 32 0;
-  opened = replicate 512 0;
-  held = replicate 32 0;
-  serials = replicate 32 0;
-  places = replicate 16 0;
-  resources = replicate 16 0;
+  tasks = record { count = tasks; priorities = priorities; settings = settings; most = most; uses = uses };
+  entries = record {
+    states = replicate 32 0;
+    started = replicate 32 false;
+    sleeps = replicate 32 0;
+    opened = replicate 512 0;
+    held = replicate 32 0;
+    serials = replicate 32 0;
+  };
+  sections = record { count = 0; places = replicate 16 0; resources = replicate 16 0 };
 }
 
 -- a byte of each of n task records, 0 past them

@@ -1,45 +1,45 @@
 // The calls that begin, wake, put to sleep and end a job.
-ghost use Rattle.std.specs.Prelude.{◌≡◌};
+ghost use Rattle.std.specs.Prelude.{◌≡◌, ◌<◌, ◌≤◌};
 ghost use Rattle.protocol.specs.Checks.{Call};
+ghost use Rattle.protocol.specs.Running.{system_ceiling};
+ghost use Rattle.protocol.specs.Acting.{admitted};
+ghost use Rattle.arrays.specs.Statuses.{status_seen};
+ghost use Rattle.scheduler.specs.View.{table_of, state_of};
 ghost use Rattle.scheduler.specs.Replies.{replied};
 
 use crate::{Number, Reply, Scheduler};
-use arrays::{
-    admitted, caller, ceiling, clear, complete_rule, is_fit, last_open, next_serial, one_more,
-    place_of_priority, release_rule, sleeper, suspend_rule,
-};
+use arrays::{Status, admitted};
 
 impl Scheduler {
+    // The system ceiling: that of the last opened section still open, else 0.
+    pub(crate) fn ceiling(&self) -> u8
+        requires { (self.now.tasks.count ≤ 32) × (self.now.sections.count ≤ 16) }
+        ensures { result ≡ system_ceiling (table_of self.now) (state_of self.now) }
+    {
+        self.tasks.ceiling(self.sections.last_open())
+    }
+
+    // The status of a job that is released or wakes: ready if its priority is above the system ceiling, else waiting.
+    fn admission(&self, place: usize) -> Status
+        requires { (place < 32) × (self.now.tasks.count ≤ 32) × (self.now.sections.count ≤ 16) }
+        ensures { status_seen result ≡ admitted (table_of self.now) (system_ceiling (table_of self.now) (state_of self.now)) place }
+    {
+        admitted(self.ceiling(), self.tasks.priorities[place])
+    }
+
     // A job begins: ready if its priority is above the system ceiling, else waiting.
     pub fn release(mut self, priority: u8) -> Reply
         ensures { result ≡ replied self (Call.release priority) }
     {
-        let tasks = self.tasks;
-        let sections = self.sections;
-        let fit = is_fit(
-            &self.settings,
-            &self.priorities,
-            &self.uses,
-            &self.places,
-            &self.resources,
-            tasks,
-            sections,
-        );
-        if !fit {
-            return self.unfit();
-        }
-        let at = place_of_priority(&self.priorities, tasks, priority);
-        let refusal = release_rule(&self.states, at);
-        if 0 < refusal {
-            return self.refused(refusal);
-        }
-        let last = last_open(&self.resources, sections);
-        let ceiling = ceiling(&self.uses, &self.priorities, tasks, last);
-        self.states[at] = admitted(ceiling, self.priorities[at]);
-        self.started[at] = false;
-        self.sleeps[at] = 0;
-        self.serials[at] = next_serial(self.serials[at]);
-        clear(&mut self.opened, at);
+        let at = match self.release_ruling(priority) {
+            Ok(at) => at,
+            Err(denial) => return self.refused(denial),
+        };
+        self.entries.states[at] = self.admission(at).number();
+        self.entries.started[at] = false;
+        self.entries.sleeps[at] = 0;
+        self.entries.serials[at] = self.entries.serials[at].wrapping_add(1);
+        self.entries.clear(at);
         self.settled()
     }
 
@@ -47,27 +47,11 @@ impl Scheduler {
     pub fn resume(mut self, job: Number) -> Reply
         ensures { result ≡ replied self (Call.resume job.priority job.serial) }
     {
-        let tasks = self.tasks;
-        let sections = self.sections;
-        let fit = is_fit(
-            &self.settings,
-            &self.priorities,
-            &self.uses,
-            &self.places,
-            &self.resources,
-            tasks,
-            sections,
-        );
-        if !fit {
-            return self.unfit();
-        }
-        let at = sleeper(&self.states, &self.priorities, &self.serials, tasks, job);
-        if 32 <= at {
-            return self.refused(20);
-        }
-        let last = last_open(&self.resources, sections);
-        let ceiling = ceiling(&self.uses, &self.priorities, tasks, last);
-        self.states[at] = admitted(ceiling, self.priorities[at]);
+        let at = match self.resume_ruling(job) {
+            Ok(at) => at,
+            Err(denial) => return self.refused(denial),
+        };
+        self.entries.states[at] = self.admission(at).number();
         self.settled()
     }
 
@@ -75,36 +59,12 @@ impl Scheduler {
     pub fn suspend(mut self, job: Number) -> Reply
         ensures { result ≡ replied self (Call.suspend job.priority job.serial) }
     {
-        let tasks = self.tasks;
-        let sections = self.sections;
-        let fit = is_fit(
-            &self.settings,
-            &self.priorities,
-            &self.uses,
-            &self.places,
-            &self.resources,
-            tasks,
-            sections,
-        );
-        if !fit {
-            return self.unfit();
-        }
-        let at = caller(
-            &self.states,
-            &self.started,
-            &self.held,
-            &self.settings,
-            &self.priorities,
-            &self.serials,
-            tasks,
-            job,
-        );
-        let refusal = suspend_rule(&self.held, &self.sleeps, &self.most, at);
-        if 0 < refusal {
-            return self.refused(refusal);
-        }
-        self.states[at] = 3;
-        self.sleeps[at] = one_more(self.sleeps[at], self.most[at]);
+        let at = match self.suspend_ruling(job) {
+            Ok(at) => at,
+            Err(denial) => return self.refused(denial),
+        };
+        self.entries.states[at] = Status::Asleep.number();
+        self.entries.sleeps[at] += 1;
         self.settled()
     }
 
@@ -112,35 +72,11 @@ impl Scheduler {
     pub fn complete(mut self, job: Number) -> Reply
         ensures { result ≡ replied self (Call.complete job.priority job.serial) }
     {
-        let tasks = self.tasks;
-        let sections = self.sections;
-        let fit = is_fit(
-            &self.settings,
-            &self.priorities,
-            &self.uses,
-            &self.places,
-            &self.resources,
-            tasks,
-            sections,
-        );
-        if !fit {
-            return self.unfit();
-        }
-        let at = caller(
-            &self.states,
-            &self.started,
-            &self.held,
-            &self.settings,
-            &self.priorities,
-            &self.serials,
-            tasks,
-            job,
-        );
-        let refusal = complete_rule(&self.held, at);
-        if 0 < refusal {
-            return self.refused(refusal);
-        }
-        self.states[at] = 0;
+        let at = match self.complete_ruling(job) {
+            Ok(at) => at,
+            Err(denial) => return self.refused(denial),
+        };
+        self.entries.states[at] = Status::NoJob.number();
         self.settled()
     }
 }

@@ -1,53 +1,42 @@
 // The calls that open and close a section.
-ghost use Rattle.std.specs.Prelude.{◌≡◌};
+ghost use Rattle.std.specs.Prelude.{◌≡◌, ◌<◌, ◌≤◌};
 ghost use Rattle.protocol.specs.Checks.{Call};
+ghost use Rattle.protocol.specs.Acting.{section, has, closed};
+ghost use Rattle.arrays.specs.View.{sections_of};
+ghost use Rattle.scheduler.specs.View.{table_of, state_of};
 ghost use Rattle.scheduler.specs.Replies.{replied};
+ghost use Rattle.scheduler.specs.Beside.{Beside};
 
 use crate::{Number, Reply, Scheduler};
-use arrays::{
-    caller, ceiling, count_at, count_if, count_one_more, is_fit, last_open, lock_rule, remove,
-    section_at, unlock_rule, wake,
-};
 
 impl Scheduler {
+    // The section of a place and a resource, where it is open, is closed, and then every waiting job above the ceiling that is left is ready.
+    fn close(&mut self, place: usize, resource: u8)
+        requires { (self.old.tasks.count ≤ 32) × (self.old.sections.count ≤ 16) }
+        ensures closed { state_of self.new ≡ closed (has (section place resource) (sections_of self.old.sections)) (table_of self.old) (section place resource) (state_of self.old) }
+        ensures beside { Beside self.old self.new }
+    {
+        let Some(slot) = self.sections.slot_of(place, resource) else {
+            return;
+        };
+        self.sections.remove(slot);
+        let ceiling = self.ceiling();
+        self.entries.wake(&self.tasks, ceiling);
+    }
+
     // The running job opens a section of a resource.
     pub fn lock(mut self, job: Number, resource: u8) -> Reply
         ensures { result ≡ replied self (Call.lock job.priority job.serial resource) }
     {
-        let tasks = self.tasks;
-        let sections = self.sections;
-        let fit = is_fit(
-            &self.settings,
-            &self.priorities,
-            &self.uses,
-            &self.places,
-            &self.resources,
-            tasks,
-            sections,
-        );
-        if !fit {
-            return self.unfit();
-        }
-        let at = caller(
-            &self.states,
-            &self.started,
-            &self.held,
-            &self.settings,
-            &self.priorities,
-            &self.serials,
-            tasks,
-            job,
-        );
-        let refusal = lock_rule(&self.uses, &self.opened, &self.held, sections, at, resource);
-        if 0 < refusal {
-            return self.refused(refusal);
-        }
-        let most = count_at(&self.uses, at, resource);
-        count_one_more(&mut self.opened, at, resource, most);
-        self.held[at] = resource;
-        self.places[sections] = at as u8;
-        self.resources[sections] = resource;
-        self.sections = sections + 1;
+        let at = match self.lock_ruling(job, resource) {
+            Ok(at) => at,
+            Err(denial) => return self.refused(denial),
+        };
+        self.entries.held[at] = resource;
+        self.entries.count_one_more(at, resource);
+        self.sections.places[self.sections.count] = at as u8;
+        self.sections.resources[self.sections.count] = resource;
+        self.sections.count += 1;
         self.settled()
     }
 
@@ -56,45 +45,12 @@ impl Scheduler {
     pub fn unlock(mut self, job: Number, resource: u8) -> Reply
         ensures { result ≡ replied self (Call.unlock job.priority job.serial resource) }
     {
-        let tasks = self.tasks;
-        let sections = self.sections;
-        let fit = is_fit(
-            &self.settings,
-            &self.priorities,
-            &self.uses,
-            &self.places,
-            &self.resources,
-            tasks,
-            sections,
-        );
-        if !fit {
-            return self.unfit();
-        }
-        let at = caller(
-            &self.states,
-            &self.started,
-            &self.held,
-            &self.settings,
-            &self.priorities,
-            &self.serials,
-            tasks,
-            job,
-        );
-        let refusal = unlock_rule(&self.held, at, resource);
-        if 0 < refusal {
-            return self.refused(refusal);
-        }
-        self.held[at] = 0;
-        let slot = section_at(&self.places, &self.resources, sections, at, resource);
-        remove(&mut self.places, slot, sections);
-        remove(&mut self.resources, slot, sections);
-        let left = sections - count_if(slot < sections, 1);
-        self.sections = left;
-        let last = last_open(&self.resources, left);
-        let ceiling = ceiling(&self.uses, &self.priorities, tasks, last);
-        let priorities = self.priorities;
-        let waking = count_if(slot < sections, tasks);
-        wake(&mut self.states, &priorities, waking, ceiling);
+        let at = match self.unlock_ruling(job, resource) {
+            Ok(at) => at,
+            Err(denial) => return self.refused(denial),
+        };
+        self.entries.held[at] = 0;
+        self.close(at, resource);
         self.settled()
     }
 }

@@ -1,10 +1,9 @@
 // Setting up: the scheduler of a table's tasks, with no job yet.
 ghost use Rattle.std.specs.Prelude.{◌≡◌, ◌≤◌};
 ghost use Rattle.table.specs.WellFormed.{WellFormed};
-ghost use Rattle.scheduler.specs.Fresh.{column, all_times, fresh_of, empty, set_up};
+ghost use Rattle.scheduler.specs.Fresh.{column, all_times, fresh_with, fresh_of, empty, set_up};
 
-use crate::Scheduler;
-use arrays::wide;
+use crate::{Entries, Scheduler, Sections, Tasks};
 use table::{Reading, Refusal, Shape};
 
 // What setting up answers: number 0 and place 0 where the table is accepted, else its refusal and a scheduler with no tasks.
@@ -20,10 +19,8 @@ fn column(bytes: &[u8], tasks: usize, field: usize) -> [u8; 32]
     ensures { result ≡ column bytes.now tasks field }
 {
     let mut numbers = [0u8; 32];
-    let mut i = 0;
-    while i < tasks {
+    for i in 0..tasks {
         numbers[i] = table::byte_at(bytes, 20 * i + field);
-        i += 1;
     }
     numbers
 }
@@ -35,17 +32,36 @@ fn times(bytes: &[u8], shape: Shape) -> [u8; 512]
 {
     let tasks = shape.tasks;
     let start = shape.uses_at;
-    let uses = shape.uses;
     let mut times = [0u8; 512];
-    let mut j = 0;
-    while j < uses {
+    for j in 0..shape.uses {
         let usage = table::use_at(bytes, start + 8 * j);
         let place = table::place_of(bytes, tasks, 0, usage.priority);
-        let k = wide(usage.resource) - 1;
+        let k = usize::from(usage.resource) - 1;
         times[place * 16 + k] = usage.times;
-        j += 1;
     }
     times
+}
+
+// A scheduler of these tasks with no job yet.
+fn with_tasks(tasks: Tasks) -> Scheduler
+    ensures { result ≡ fresh_with tasks.count tasks.priorities tasks.settings tasks.most tasks.uses }
+{
+    Scheduler {
+        tasks,
+        entries: Entries {
+            states: [0; 32],
+            started: [false; 32],
+            sleeps: [0; 32],
+            opened: [0; 512],
+            held: [0; 32],
+            serials: [0; 32],
+        },
+        sections: Sections {
+            count: 0,
+            places: [0; 16],
+            resources: [0; 16],
+        },
+    }
 }
 
 // The scheduler of an accepted table.
@@ -53,44 +69,26 @@ fn fresh(bytes: &[u8], shape: Shape) -> Scheduler
     requires { WellFormed bytes.now shape }
     ensures { result ≡ fresh_of bytes.now shape }
 {
-    Scheduler {
-        tasks: shape.tasks,
-        sections: 0,
+    with_tasks(Tasks {
+        count: shape.tasks,
         priorities: column(bytes, shape.tasks, 1),
         settings: column(bytes, shape.tasks, 2),
         most: column(bytes, shape.tasks, 3),
         uses: times(bytes, shape),
-        states: [0; 32],
-        started: [false; 32],
-        sleeps: [0; 32],
-        opened: [0; 512],
-        held: [0; 32],
-        serials: [0; 32],
-        places: [0; 16],
-        resources: [0; 16],
-    }
+    })
 }
 
 // A scheduler with no tasks.
 fn empty() -> Scheduler
     ensures { result ≡ empty }
 {
-    Scheduler {
-        tasks: 0,
-        sections: 0,
+    with_tasks(Tasks {
+        count: 0,
         priorities: [0; 32],
         settings: [0; 32],
         most: [0; 32],
         uses: [0; 512],
-        states: [0; 32],
-        started: [false; 32],
-        sleeps: [0; 32],
-        opened: [0; 512],
-        held: [0; 32],
-        serials: [0; 32],
-        places: [0; 16],
-        resources: [0; 16],
-    }
+    })
 }
 
 // Sets up on a table's bytes, whatever they are.
@@ -106,7 +104,7 @@ pub fn set_up(bytes: &[u8]) -> SetUp
             scheduler: fresh(bytes, shape),
         },
         Reading::Refused(refusal) => SetUp {
-            refusal: refusal,
+            refusal,
             scheduler: empty(),
         },
     }

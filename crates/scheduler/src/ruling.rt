@@ -1,0 +1,94 @@
+// What is checked of each call: the place of the job that it is granted to, or why it is refused.
+ghost use Rattle.std.specs.Prelude.{◌≡◌, ◌<◌, ◌≤◌, IfOk, IsTrue, slice_index};
+ghost use Rattle.protocol.specs.Fit.{fit};
+ghost use Rattle.protocol.specs.Checks.{Call};
+ghost use Rattle.arrays.specs.Rulings.{Roomy};
+ghost use Rattle.scheduler.specs.View.{table_of, state_of};
+ghost use Rattle.scheduler.specs.Rulings.{Ruled, by_number, ruling_on};
+
+use crate::{Denial, Number, Scheduler};
+
+impl Scheduler {
+    // Whether the state is fit.
+    fn is_fit(&self) -> bool
+        ensures told { result ≡ fit (table_of self.now) (state_of self.now) }
+        ensures few { IsTrue result → (self.now.tasks.count ≤ 32) × (self.now.sections.count ≤ 16) }
+    {
+        self.tasks.are_fit() & self.sections.are_fit(&self.tasks)
+    }
+
+    // The place of the running job, where it has this number: what is checked first of every call of its own.
+    fn caller(&self, job: Number) -> Result<usize, Denial>
+        ensures { Ruled self.now (by_number self.now job.priority job.serial) result }
+    {
+        if !self.is_fit() {
+            return Err(Denial::Unfit);
+        }
+        let at = self.entries.running(&self.tasks).ok_or(Denial::Stranger)?;
+        if !self.entries.has_number(&self.tasks, at, job) {
+            return Err(Denial::Stranger);
+        }
+        Ok(at)
+    }
+
+    // A release finds the task of its priority.
+    pub(crate) fn release_ruling(&self, priority: u8) -> Result<usize, Denial>
+        ensures { Ruled self.now (ruling_on self.now (Call.release priority)) result }
+    {
+        if !self.is_fit() {
+            return Err(Denial::Unfit);
+        }
+        let at = self
+            .tasks
+            .place_of_priority(priority)
+            .ok_or(Denial::NoTask)?;
+        self.entries.release_rule(at)
+    }
+
+    // A resume finds the job that sleeps under its number.
+    pub(crate) fn resume_ruling(&self, job: Number) -> Result<usize, Denial>
+        ensures { Ruled self.now (ruling_on self.now (Call.resume job.priority job.serial)) result }
+    {
+        if !self.is_fit() {
+            return Err(Denial::Unfit);
+        }
+        self.entries
+            .sleeper(&self.tasks, job)
+            .ok_or(Denial::NoSleeper)
+    }
+
+    // The others find the running job: a lock,
+    pub(crate) fn lock_ruling(&self, job: Number, resource: u8) -> Result<usize, Denial>
+        ensures ruled { Ruled self.now (ruling_on self.now (Call.lock job.priority job.serial resource)) result }
+        ensures room { IfOk result (λ i. Roomy self.now.entries self.now.sections.count resource i) }
+    {
+        let at = self.caller(job)?;
+        self.entries
+            .lock_rule(&self.tasks, self.sections.count, at, resource)
+    }
+
+    // an unlock,
+    pub(crate) fn unlock_ruling(&self, job: Number, resource: u8) -> Result<usize, Denial>
+        ensures { Ruled self.now (ruling_on self.now (Call.unlock job.priority job.serial resource)) result }
+    {
+        let at = self.caller(job)?;
+        self.entries.unlock_rule(at, resource)
+    }
+
+    // a suspend,
+    pub(crate) fn suspend_ruling(&self, job: Number) -> Result<usize, Denial>
+        ensures ruled { Ruled self.now (ruling_on self.now (Call.suspend job.priority job.serial)) result }
+        ensures room { IfOk result (λ i. slice_index self.now.entries.sleeps i < 255) }
+    {
+        let at = self.caller(job)?;
+        self.entries.suspend_rule(&self.tasks, at)
+    }
+
+    // and a complete.
+    pub(crate) fn complete_ruling(&self, job: Number) -> Result<usize, Denial>
+        ensures { Ruled self.now (ruling_on self.now (Call.complete job.priority job.serial)) result }
+    {
+        let at = self.caller(job)?;
+        self.entries.complete_rule(at)
+    }
+}
