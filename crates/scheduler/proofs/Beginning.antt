@@ -11,7 +11,7 @@ use Rattle.searches.specs.Searches.{only}
 use Rattle.protocol.specs.State.{fresh}
 use Rattle.protocol.specs.Accepted.{Accepted}
 use Rattle.table.specs.declared.Shape.{Shape}
-use Rattle.table.specs.declared.Reading.TheVariants as reading
+use Rattle.std.proofs.Common.{Ok}
 use Rattle.table.specs.Reading.{read_table}
 use Rattle.table.specs.WellFormed.{WellFormed}
 use Rattle.searches.proofs.Indexed.{length_every, every_at, same_at}
@@ -80,6 +80,6 @@ module _ (s : List ℕ) (h : Shape) where
     }
 
   -- setting up on an accepted table
-  pub set_up_fresh : read_table s ≡ reading.Accepted h → (set_up s).scheduler ≡ fresh_of s h
+  pub set_up_fresh : read_table s ≡ Ok h → (set_up s).scheduler ≡ fresh_of s h
   unfolding set_up_by
   set_up_fresh e = ap (λ q. (set_up_by q s).scheduler) e

@@ -14,7 +14,7 @@ use Rattle.searches.proofs.Testing.{and_true, true_and}
 use Rattle.table.specs.declared.Shape.{Shape}
 use Rattle.table.specs.declared.Use.{Use}
 use Rattle.table.specs.declared.Refusal.{Refusal}
-use Rattle.table.specs.declared.Reading.TheVariants.{Accepted, Refused}
+use Rattle.std.proofs.Common.{None, Some, Ok, Err}
 use Rattle.table.specs.Reading.{read_table}
 use Rattle.table.specs.Rules.{place_from}
 use Rattle.searches.specs.Indexed.{every}
@@ -163,12 +163,12 @@ module _ (s : List ℕ) (h : Shape) (W : WellFormed s h) (j : ℕ) (lt : j < h.u
 
 module _ (s : List ℕ) where
   -- an accepted table
-  pub set_up_accepted : (h : Shape) (x : Scheduler) → read_table s ≡ Accepted h → x ≡ fresh_of s h
-      → record { refusal = record { number = 0; place = 0 }; scheduler = x } ≡ set_up s
+  pub set_up_accepted : (h : Shape) (x : Scheduler) → read_table s ≡ Ok h → x ≡ fresh_of s h
+      → record { refusal = None; scheduler = x } ≡ set_up s
   unfolding set_up_by
-  set_up_accepted h x r e = ap (λ y. record { refusal = record { number = 0; place = 0 }; scheduler = y }) e ∙ sym (ap (λ q. set_up_by q s) r)
+  set_up_accepted h x r e = ap (λ y. record { refusal = None; scheduler = y }) e ∙ sym (ap (λ q. set_up_by q s) r)
 
   -- a refused one
-  pub set_up_refused : (f : Refusal) (x : Scheduler) → read_table s ≡ Refused f → x ≡ empty → record { refusal = f; scheduler = x } ≡ set_up s
+  pub set_up_refused : (f : Refusal) (x : Scheduler) → read_table s ≡ Err f → x ≡ empty → record { refusal = Some f; scheduler = x } ≡ set_up s
   unfolding set_up_by
-  set_up_refused f x r e = ap (λ y. record { refusal = f; scheduler = y }) e ∙ sym (ap (λ q. set_up_by q s) r)
+  set_up_refused f x r e = ap (λ y. record { refusal = Some f; scheduler = y }) e ∙ sym (ap (λ q. set_up_by q s) r)

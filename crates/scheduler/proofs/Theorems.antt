@@ -20,7 +20,7 @@ use Rattle.protocol.proofs.Runner.{lawful}
 use Rattle.protocol.proofs.Theorems.{refused_keeps, short_waits, short_waits_past, short_waits_always, never_unfit, idle_only, answered_idle}
 use Rattle.protocol.proofs.Theorems.{entitled, number_again}
 use Rattle.table.specs.declared.Shape.{Shape}
-use Rattle.table.specs.declared.Reading.TheVariants as reading
+use Rattle.std.proofs.Common.{Ok}
 use Rattle.table.specs.Reading.{read_table}
 use Rattle.table.proofs.Accepted.{well_formed}
 use Rattle.std.proofs.Common.{None}
@@ -55,7 +55,7 @@ driven bytes calls zero = (set_up bytes).scheduler
 driven bytes calls (suc k) = (replied (driven bytes calls k) (calls k)).state
 
 -- so any calls can be made
-pub drives : (bytes : List ℕ) (h : Shape) → read_table bytes ≡ reading.Accepted h → (calls : ℕ → Call)
+pub drives : (bytes : List ℕ) (h : Shape) → read_table bytes ≡ Ok h → (calls : ℕ → Call)
     → Driven bytes h calls (driven bytes calls) (λ k. replied (driven bytes calls k) (calls k))
 unfolding driven
 drives bytes h e calls = record { reads = e; starts = refl; replies = λ k. refl; goes_on = λ k. refl }

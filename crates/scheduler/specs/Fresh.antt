@@ -1,10 +1,9 @@
 -- What setting up answers: the scheduler of an accepted table with no job yet, or the refusal and a scheduler with no tasks.
-use Rattle.std.specs.Prelude.{List, Bool, false, cond, ◌&&◌, ℕ, zero, suc, ◌+◌, ◌*◌, ◌/◌, ◌%◌, ltb, eqb, get_or, replicate}
+use Rattle.std.specs.Prelude.{List, Bool, false, cond, ◌&&◌, ℕ, zero, suc, ◌+◌, ◌*◌, ◌/◌, ◌%◌, ltb, eqb, get_or, replicate, None, Some, Result, Ok, Err}
 use Rattle.searches.specs.Searches.{only}
 use Rattle.table.specs.declared.Shape.{Shape}
 use Rattle.table.specs.declared.Use.{Use}
-use Rattle.table.specs.declared.Reading.{Reading}
-use Rattle.table.specs.declared.Reading.TheVariants.{Accepted, Refused}
+use Rattle.table.specs.declared.Refusal.{Refusal}
 use Rattle.searches.specs.Indexed.{every}
 use Rattle.table.specs.Reading.{read_table}
 use Rattle.table.specs.WellFormed.{task_of, use_of}
@@ -56,9 +55,9 @@ abbrev pub empty : Scheduler
 empty = fresh_with 0 (replicate 32 0) (replicate 32 0) (replicate 32 0) (replicate 512 0)
 
 -- what setting up answers, by what the bytes are read as
-unfoldable pub set_up_by : Reading → List ℕ → SetUp
-set_up_by (Accepted h) s = record { refusal = record { number = 0; place = 0 }; scheduler = fresh_of s h }
-set_up_by (Refused f) s = record { refusal = f; scheduler = empty }
+unfoldable pub set_up_by : Result Shape Refusal → List ℕ → SetUp
+set_up_by (Ok h) s = record { refusal = None; scheduler = fresh_of s h }
+set_up_by (Err f) s = record { refusal = Some f; scheduler = empty }
 
 -- what setting up on a table's bytes answers
 abbrev pub set_up : List ℕ → SetUp

@@ -4,12 +4,12 @@ ghost use Rattle.table.specs.WellFormed.{WellFormed};
 ghost use Rattle.scheduler.specs.Fresh.{column, all_times, fresh_with, fresh_of, empty, set_up};
 
 use crate::{Entries, Scheduler, Sections, Tasks};
-use table::{Reading, Refusal, Shape};
+use table::{Refusal, Shape};
 
-// What setting up answers: number 0 and place 0 where the table is accepted, else its refusal and a scheduler with no tasks.
+// What setting up answers: no refusal where the table is accepted, else its refusal and a scheduler with no tasks.
 #[derive(Clone, Copy)]
 pub struct SetUp {
-    pub refusal: Refusal,
+    pub refusal: Option<Refusal>,
     pub scheduler: Scheduler,
 }
 
@@ -96,15 +96,12 @@ pub fn set_up(bytes: &[u8]) -> SetUp
     ensures { result ≡ set_up bytes.now }
 {
     match table::read(bytes) {
-        Reading::Accepted(shape) => SetUp {
-            refusal: Refusal {
-                number: 0,
-                place: 0,
-            },
+        Ok(shape) => SetUp {
+            refusal: None,
             scheduler: fresh(bytes, shape),
         },
-        Reading::Refused(refusal) => SetUp {
-            refusal,
+        Err(refusal) => SetUp {
+            refusal: Some(refusal),
             scheduler: empty(),
         },
     }

@@ -6,14 +6,14 @@ use Rattle.scheduler.proofs.setup.set_up.Goals as goal
 
 pub fresh-requires : goal.fresh-requires
 fresh-requires c =
-    well_formed c.args.bytes.now _ (sym c.read.ensures ∙ c.in-Accepted.is)
+    well_formed c.args.bytes.now _ (sym c.read.ensures ∙ c.in-Ok.is)
 
-pub returns-in-Accepted : goal.returns-in-Accepted
-returns-in-Accepted c =
-    set_up_accepted c.args.bytes.now _ c.fresh.result (sym c.read.ensures ∙ c.in-Accepted.is)
+pub returns-in-Ok : goal.returns-in-Ok
+returns-in-Ok c =
+    set_up_accepted c.args.bytes.now _ c.fresh.result (sym c.read.ensures ∙ c.in-Ok.is)
     c.fresh.ensures
 
-pub returns-in-Refused : goal.returns-in-Refused
-returns-in-Refused c =
-    set_up_refused c.args.bytes.now _ c.empty.result (sym c.read.ensures ∙ c.in-Refused.is)
+pub returns-in-Err : goal.returns-in-Err
+returns-in-Err c =
+    set_up_refused c.args.bytes.now _ c.empty.result (sym c.read.ensures ∙ c.in-Err.is)
     c.empty.ensures
