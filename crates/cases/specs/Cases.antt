@@ -1,8 +1,10 @@
 -- The scope's cases A to L, as one list under one theorem: tables and what is answered of them, bytes that are refused, and call lists with who runs.
-use Rattle.std.specs.Prelude.{ℕ, ◌≡◌, refl, Bool, true, false, List, [], ◌∷◌, length}
+use Rattle.std.specs.Prelude.{ℕ, ◌≡◌, refl, Bool, true, false, List, [], ◌∷◌, length, Some}
 use Rattle.searches.specs.Searches.{first, best, all, some, largest}
 use Rattle.searches.specs.Indexed.{sum_to, every}
 use Rattle.table.specs.declared.Shape.{Shape}
+use Rattle.table.specs.declared.Why.{Why}
+use Rattle.table.specs.declared.Why.TheVariants.{Cut, Kind, Order}
 use Rattle.table.specs.Fields.{word_at}
 use Rattle.table.specs.Rules.{task_rule, place_from, sum_after, use_rule}
 use Rattle.table.specs.Reading.{task_step, use_step, end_step, step_at, read_from}
@@ -30,7 +32,7 @@ use Rattle.cases.specs.Tables.{A, C, D, E, G, H}
 -- A case: a table's answers, verdict and total; a refusal and its place; the values after one round alone; or calls with their answers.
 pub data Case : Type 0 where
   analysed_case : List ℕ → List TaskAnswer → Bool → ℕ → Case
-  refused : List ℕ → ℕ → ℕ → Case
+  refused : List ℕ → Why → ℕ → Case
   one_round : List ℕ → Shape → List ℕ → Case
   called : List ℕ → List Call → List (ℕ × Running) → Case
 
@@ -38,7 +40,7 @@ pub data Case : Type 0 where
 abbrev pub Holds : Case → Type 0
 Holds (analysed_case s told verdict total) =
     (every (answer_at (analysed s 100000)) (length told) 0 ≡ told) × ((analysed s 100000).verdict ≡ verdict) × ((analysed s 100000).evaluations ≡ total)
-Holds (refused s number place) = ((analysed s 100000).refusal.number ≡ number) × ((analysed s 100000).refusal.place ≡ place)
+Holds (refused s why place) = (analysed s 100000).refusal ≡ Some (record { why = why; place = place })
 Holds (one_round s h values) = (round (own_system s h) (begin (own_system s h))).vector ≡ values
 Holds (called s calls told) = answers machine.in_force (table_of (set_up s).scheduler) fresh calls ≡ told
 
@@ -58,9 +60,9 @@ cases =
     ∷ analysed_case G (Bound 10 ∷ Bound 10 ∷ Bound 12 ∷ []) true 12
     ∷ analysed_case H (Bound 6 ∷ Bound 5 ∷ []) true 12
     ∷ one_round H (record { tasks = 2; uses_at = 40; uses = 2 }) (9 ∷ 5 ∷ [])
-    ∷ refused [] 1 0
-    ∷ refused (3 ∷ []) 3 0
-    ∷ refused (4 ∷ []) 2 0
+    ∷ refused [] Cut 0
+    ∷ refused (3 ∷ []) Order 0
+    ∷ refused (4 ∷ []) Kind 0
     ∷ called (A 0) calls_k answers_k
     ∷ called (A 1) calls_l answers_l
     ∷ []
@@ -82,7 +84,7 @@ computed = (
             (refl, refl, refl),
             (
               (refl, refl, refl),
-              ((refl, refl, refl), (refl, ((refl, refl), ((refl, refl), ((refl, refl), (refl, (refl, tt))))))),
+              ((refl, refl, refl), (refl, (refl, (refl, (refl, (refl, (refl, tt))))))),
             ),
           ),
         ),

@@ -1,15 +1,16 @@
 -- Demand 1, fixed replies: every table, call and job number has one defined reply. A refused call changes nothing; a call under any number but the
 -- entitled job's is refused; an old number can match again only after 65,536 releases.
-use Rattle.std.specs.Prelude.{ℕ, suc, ◌<◌, ◌≡◌, ◌↔◌, List, ◌++◌, get_or, length, drop}
+use Rattle.std.specs.Prelude.{ℕ, suc, ◌<◌, ◌≡◌, ◌↔◌, List, ◌++◌, get_or, length, drop, Result}
 use Rattle.std.proofs.Common.{sym, ◌∙◌}
 use Rattle.table.specs.declared.Shape.{Shape}
-use Rattle.table.specs.declared.Reading.{Reading}
+use Rattle.table.specs.declared.Refusal.{Refusal}
+use Rattle.table.specs.declared.Why.{Why}
+use Rattle.table.specs.Reading.{Reading}
 use Rattle.table.specs.Fields.{word_at, no_task, no_use, task_at, use_at}
 use Rattle.table.specs.Replies as table-replies
 use Rattle.table.specs.Reading.{read_table}
 use Rattle.table.specs.Records.{record_of}
 use Rattle.held.specs.declared.Table.{Table}
-use Rattle.held.specs.declared.Writing.{Writing}
 use Rattle.held.specs.Replies as held-replies
 use Rattle.held.specs.Loading.{load_table}
 use Rattle.held.specs.Writing.{write_table, written}
@@ -26,6 +27,8 @@ use Rattle.protocol.specs.Running.{in_force}
 use Rattle.protocol.specs.Checks.{Call}
 use Rattle.protocol.specs.Trace.{released}
 use Rattle.protocol.specs.Numbers.{Entitled, releases, Wraps}
+use Rattle.arrays.specs.declared.denial.Denial.{Denial}
+use Rattle.arrays.specs.Denials.{denial_number, refusal_number}
 use Rattle.scheduler.specs.declared.Scheduler.{Scheduler}
 use Rattle.scheduler.specs.declared.Reply.{Reply}
 use Rattle.scheduler.specs.View.{Sized, table_of, state_of}
@@ -45,10 +48,11 @@ one d r q e f = e ∙ sym f
 
 -- What a host may call, by the definition that it is promised by: bytes, tables, states and numbers are any.
 pub record OneReply : Type 0 where
-  -- table::read, and number and place of its answer
+  -- table::read, number and place of its answer, and Why::number
   pub reads : (s : List ℕ) → One (read_table s)
   pub read_numbers : (r : Reading) → One (table-replies.number_of r)
   pub read_places : (r : Reading) → One (table-replies.place_of r)
+  pub why_numbers : (y : Why) → One (table-replies.why_number y)
   -- table::record_of, byte_at, word_at, task_at, use_at, no_task, no_use
   pub records : (s : List ℕ) (p : ℕ) → One (record_of s p)
   pub bytes : (s : List ℕ) (at : ℕ) → One (get_or s at 0)
@@ -61,18 +65,19 @@ pub record OneReply : Type 0 where
   pub loads : (s : List ℕ) → One (load_table s)
   pub writes : (t : Table) (room : ℕ) → One (write_table t room)
   pub writes_to : (t : Table) (out : List ℕ) → One (written t out)
-  pub write_numbers : (w : Writing) → One (held-replies.number_of w)
-  pub write_places : (w : Writing) → One (held-replies.place_of w)
-  pub write_counts : (w : Writing) → One (held-replies.count_of w)
+  pub write_numbers : (w : Result ℕ Refusal) → One (table-replies.number_of w)
+  pub write_places : (w : Result ℕ Refusal) → One (table-replies.place_of w)
+  pub write_counts : (w : Result ℕ Refusal) → One (held-replies.count_of w)
   -- analysis::analyse, Analysis::answer
   pub analyses : (s : List ℕ) (allowance : ℕ) → One (analysed s allowance)
   pub answers : (a : Analysis) (place : ℕ) → One (answer_at a place)
   -- report::report and the rows that it is lent
   pub reports : (s : List ℕ) (allowance room : ℕ) → One (reported s allowance room)
   pub reports_to : (s : List ℕ) (allowance : ℕ) (rows : List Row) → One (rows_after s allowance rows)
-  -- scheduler::set_up, and the six calls on any state
+  -- scheduler::set_up, the six calls on any state, and Denial::number
   pub sets_up : (s : List ℕ) → One (set_up s)
   pub calls : (s : Scheduler) (c : Call) → One (replied s c)
+  pub denial_numbers : (d : Denial) → One (denial_number d)
   -- notation::pack, and the buffer that it is lent
   pub packs : (room : ℕ) (t : List ℕ) → One (pack_into room t).packing
   pub packs_to : (t out : List ℕ) → One ((pack_into (length out) t).bytes ++ drop (length (pack_into (length out) t).bytes) out)
@@ -85,6 +90,7 @@ one_reply = record {
   reads = λ s. one (read_table s);
   read_numbers = λ r. one (table-replies.number_of r);
   read_places = λ r. one (table-replies.place_of r);
+  why_numbers = λ y. one (table-replies.why_number y);
   records = λ s p. one (record_of s p);
   bytes = λ s at. one (get_or s at 0);
   words = λ s at. one (word_at s at);
@@ -95,8 +101,8 @@ one_reply = record {
   loads = λ s. one (load_table s);
   writes = λ t room. one (write_table t room);
   writes_to = λ t out. one (written t out);
-  write_numbers = λ w. one (held-replies.number_of w);
-  write_places = λ w. one (held-replies.place_of w);
+  write_numbers = λ w. one (table-replies.number_of w);
+  write_places = λ w. one (table-replies.place_of w);
   write_counts = λ w. one (held-replies.count_of w);
   analyses = λ s allowance. one (analysed s allowance);
   answers = λ a place. one (answer_at a place);
@@ -104,6 +110,7 @@ one_reply = record {
   reports_to = λ s allowance rows. one (rows_after s allowance rows);
   sets_up = λ s. one (set_up s);
   calls = λ s c. one (replied s c);
+  denial_numbers = λ d. one (denial_number d);
   packs = λ room t. one (pack_into room t).packing;
   packs_to = λ t out. one ((pack_into (length out) t).bytes ++ drop (length (pack_into (length out) t).bytes) out);
   prints = λ t out o₁ o₂ r₁ r₂ p q. (p.end ∙ sym q.end, p.holds ∙ sym q.holds);
@@ -112,12 +119,12 @@ one_reply = record {
 -- ---- refusals and numbers
 
 -- a refused call leaves the scheduler as it is, whatever state was handed in
-pub refused_changes_nothing : {s : Scheduler} → Sized s → (c : Call) → ((replied s c).refusal ≡ 0 → ⊥) → (replied s c).state ≡ s
+pub refused_changes_nothing : {s : Scheduler} → Sized s → (c : Call) → (refusal_number (replied s c).refusal ≡ 0 → ⊥) → (replied s c).state ≡ s
 refused_changes_nothing = refused_same
 
 module _ {bytes : List ℕ} {h : Shape} {calls : ℕ → Call} {S : ℕ → Scheduler} {R : ℕ → Reply} (D : Driven bytes h calls S R) where
   -- an accepted call was made under the entitled job's number
-  pub only_entitled : (k : ℕ) → (R k).refusal ≡ 0 → Entitled in_force (table_of (S k)) (state_of (S k)) (calls k)
+  pub only_entitled : (k : ℕ) → refusal_number (R k).refusal ≡ 0 → Entitled in_force (table_of (S k)) (state_of (S k)) (calls k)
   only_entitled = calls_entitled D
 
   -- two releases of a task give one number exactly when the releases of the task between them are a multiple of 65,536

@@ -3,7 +3,7 @@
 -- section already open when that wait began; in the states in which it is above the system priority, one section to a wait; so at most one more such
 -- section than its sleeps, and after its first sleep only sections of tasks above its own setting. `ShortWaits` has these clauses, one by one.
 -- A sleeper freezes no holder: a call replies idle only where no section is open and each unfinished job sleeps or is behind one that does.
-use Rattle.std.specs.Prelude.{ℕ, suc, ◌<◌, ◌≡◌, List}
+use Rattle.std.specs.Prelude.{ℕ, suc, ◌<◌, ◌≡◌, List, None}
 use Rattle.searches.specs.Searches.{nowhere}
 use Rattle.table.specs.declared.Shape.{Shape}
 use Rattle.protocol.specs.Tasks.{Table, setting}
@@ -21,7 +21,6 @@ use Rattle.protocol.proofs.Cases as cases
 use Rattle.protocol.proofs.Needed as needed
 use Rattle.protocol.proofs.Former as former
 use Rattle.scheduler.specs.declared.Scheduler.{Scheduler}
-use Rattle.scheduler.specs.declared.Running.{Running}
 use Rattle.scheduler.specs.declared.Reply.{Reply}
 use Rattle.scheduler.specs.View.{table_of, state_of}
 use Rattle.scheduler.specs.Fresh.{fresh_of}
@@ -70,11 +69,11 @@ never_idle = machine.never_idle
 module _ {bytes : List ℕ} {h : Shape} {calls : ℕ → Call} {S : ℕ → Scheduler} {R : ℕ → Reply} (D : Driven bytes h calls S R) where
   -- of the code: where after a call some job is unfinished and none sleeps, it doesn't reply idle
   pub calls_never_idle : (k i : ℕ) → (((state_of (S (suc k))).entry i).status ≡ none → ⊥)
-      → ((j : ℕ) → ((state_of (S (suc k))).entry j).status ≡ asleep → ⊥) → (R k).running ≡ Running.Idle → ⊥
+      → ((j : ℕ) → ((state_of (S (suc k))).entry j).status ≡ asleep → ⊥) → (R k).running ≡ None → ⊥
   calls_never_idle = code.calls_never_idle D
 
   -- and where it does, no section is open, and each unfinished job sleeps or is not above the setting of one that does
-  pub idle_only : (k : ℕ) → (R k).running ≡ Running.Idle → Idle (table_of (S (suc k))) (state_of (S (suc k)))
+  pub idle_only : (k : ℕ) → (R k).running ≡ None → Idle (table_of (S (suc k))) (state_of (S (suc k)))
   idle_only = code.calls_idle_only D
 
 -- at the fair: task 1 holds a section, task 3 sleeps above it with its setting, task 2 waits; task 1 runs, and then task 2

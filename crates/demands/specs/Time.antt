@@ -5,7 +5,7 @@
 use Rattle.std.specs.Prelude.{ℕ, suc, ◌+◌, ◌≤◌, ◌<◌, ◌≡◌, true, List, [], ◌++◌}
 use Rattle.std.proofs.Common.{ap, arith}
 use Rattle.table.specs.declared.Shape.{Shape}
-use Rattle.table.specs.declared.Reading.TheVariants.{Accepted}
+use Rattle.std.specs.Prelude.{Ok}
 use Rattle.table.specs.Reading.{read_table}
 use Rattle.table.specs.WellFormed.{task_of}
 use Rattle.analysis.specs.declared.TaskAnswer.TheVariants.{Bound}
@@ -23,6 +23,7 @@ use Rattle.scheduler.specs.declared.Reply.{Reply}
 use Rattle.scheduler.specs.View.{table_of}
 use Rattle.scheduler.specs.Replies.{replied}
 use Rattle.scheduler.specs.Fresh.{fresh_of}
+use Rattle.arrays.specs.Denials.{refusal_number}
 use Rattle.scheduler.specs.Driven.{Driven}
 use Rattle.scheduler.proofs.Theorems.{driven}
 use Rattle.timing.specs.Statement.{Clock, At, seen, seen_under, Obeys, Prompt, DoneInTime, OverWithin, InTime, ReleasedInTime}
@@ -75,7 +76,7 @@ module _ {bytes : List ℕ} {h : Shape} {calls : ℕ → Call} {S : ℕ → Sche
 
     -- and a release T or more after it is not refused for a job that is still there, unless at the very instant, the bound being T, the call that ends
     -- the job comes after it
-    pub next_release : ReleasedInTime bytes h allowance calls K (seen calls S R) (λ k. (R k).refusal)
+    pub next_release : ReleasedInTime bytes h allowance calls K (seen calls S R) (λ k. refusal_number (R k).refusal)
     next_release = timing.calls_released_in_time D K O allowance
 
 -- ---- not empty, nothing asked in vain, and not so of every rule
@@ -96,7 +97,7 @@ pub former_late : late.Late
 former_late = late.former_late
 
 -- save where all settings are 0
-pub former_in_time : (bytes : List ℕ) (h : Shape) → read_table bytes ≡ Accepted h → ((i : ℕ) → i < h.tasks → (task_of bytes i).setting ≡ 0)
+pub former_in_time : (bytes : List ℕ) (h : Shape) → read_table bytes ≡ Ok h → ((i : ℕ) → i < h.tasks → (task_of bytes i).setting ≡ 0)
     → (calls : ℕ → Call) (K : Clock) → Obeys bytes h K (seen_under above_system (table_of (fresh_of bytes h)) calls) → (allowance : ℕ)
     → DoneInTime bytes h allowance K (seen_under above_system (table_of (fresh_of bytes h)) calls)
     × InTime bytes h allowance K (seen_under above_system (table_of (fresh_of bytes h)) calls)

@@ -4,7 +4,7 @@
 use Rattle.std.specs.Prelude.{ℕ, ◌≤◌, ◌<◌, ◌≡◌, ◌↔◌, true, List, [], ◌++◌, get_or, length, take, drop}
 use Rattle.std.proofs.Common.{arith}
 use Rattle.table.specs.declared.Shape.{Shape}
-use Rattle.table.specs.declared.Reading.TheVariants.{Accepted}
+use Rattle.std.specs.Prelude.{Ok}
 use Rattle.table.specs.Reading.{read_table}
 use Rattle.table.specs.WellFormed.{WellFormed}
 use Rattle.table.proofs.Accepted.{well_formed}
@@ -16,12 +16,13 @@ use Rattle.rounds.specs.System.{deadline, Final}
 use Rattle.rounds.specs.Vector.{◌⊑◌}
 use Rattle.rounds.specs.Rounds.{analysis, answer}
 use Rattle.held.specs.declared.Table.{Table}
-use Rattle.held.specs.declared.Writing.TheVariants.{Written}
+use Rattle.std.specs.Prelude.{Ok}
 use Rattle.held.specs.Loading.{load_table}
 use Rattle.held.specs.Writing.{write_table, written}
 use Rattle.held.specs.Trips as held
 use Rattle.held.proofs.Trips as trips
 use Rattle.analysis.specs.declared.TaskAnswer.TheVariants.{Conditional}
+use Rattle.analysis.specs.Refusing.{refusal_number}
 use Rattle.analysis.specs.Analysing.{own_system, verdict_of, analysed}
 use Rattle.analysis.specs.Answering.{answer_at, told_of}
 use Rattle.analysis.proofs.Right as right
@@ -49,7 +50,7 @@ use Rattle.scheduler.proofs.Following.{replied_follows}
 
 -- ---- bounds
 
-module _ (s : List ℕ) (h : Shape) (accepted : read_table s ≡ Accepted h) where
+module _ (s : List ℕ) (h : Shape) (accepted : read_table s ≡ Ok h) where
   -- the values are the largest that agree with themselves
   pub largest_agreeing : Final (own_system s h) (analysis (own_system s h)).vector
   largest_agreeing = right.largest_vector s h accepted
@@ -63,7 +64,7 @@ module _ (s : List ℕ) (h : Shape) (accepted : read_table s ≡ Accepted h) whe
   each_right = right.each_right s h accepted
 
   -- refused exactly when the total is larger than the allowance, and then with 8
-  pub refused_exactly : (allowance : ℕ) → ((analysed s allowance).refusal.number ≡ 8) ↔ (allowance < total_of s h)
+  pub refused_exactly : (allowance : ℕ) → (refusal_number (analysed s allowance).refusal ≡ 8) ↔ (allowance < total_of s h)
   refused_exactly allowance = replies.refused_exactly s h allowance accepted
 
   module _ (allowance : ℕ) (enough : total_of s h ≤ allowance) where
@@ -81,7 +82,7 @@ module _ (s : List ℕ) (h : Shape) (accepted : read_table s ≡ Accepted h) whe
     conditional_exactly = replies.conditional_exactly s h accepted allowance enough
 
 -- a larger allowance never alters an answer already given
-pub answer_stands : (s : List ℕ) (a b : ℕ) → a ≤ b → ((analysed s a).refusal.number ≡ 8 → ⊥) → analysed s b ≡ analysed s a
+pub answer_stands : (s : List ℕ) (a b : ℕ) → a ≤ b → (refusal_number (analysed s a).refusal ≡ 8 → ⊥) → analysed s b ≡ analysed s a
 answer_stands = replies.larger_allowance
 
 -- ---- calls
@@ -93,7 +94,7 @@ call_follows Z c = replied_follows Z c
 -- ---- tables
 
 -- a table is accepted exactly when it is well formed
-pub accepted_exactly : (s : List ℕ) (h : Shape) → (read_table s ≡ Accepted h) ↔ WellFormed s h
+pub accepted_exactly : (s : List ℕ) (h : Shape) → (read_table s ≡ Ok h) ↔ WellFormed s h
 accepted_exactly s h = (well_formed s h, complete s h)
 
 -- 8,192 bytes decide any input, and what the bounds program prints of it
@@ -101,24 +102,24 @@ pub front_decides : (s : List ℕ) (allowance : ℕ) → (read_table (take 8192 
 front_decides s allowance = (decided.front_decides s 8192 (omega arith), front_printed s allowance)
 
 -- bytes that are accepted, loaded and written are the same bytes, and the rest of the buffer stays
-pub bytes_again : (s : List ℕ) → ((i : ℕ) → get_or s i 0 < 256) → (h : Shape) → read_table s ≡ Accepted h → (out : List ℕ) → length s ≤ length out
-    → (write_table (load_table s).table (length out) ≡ Written (length s)) × (written (load_table s).table out ≡ s ++ drop (length s) out)
+pub bytes_again : (s : List ℕ) → ((i : ℕ) → get_or s i 0 < 256) → (h : Shape) → read_table s ≡ Ok h → (out : List ℕ) → length s ≤ length out
+    → (write_table (load_table s).table (length out) ≡ Ok (length s)) × (written (load_table s).table out ≡ s ++ drop (length s) out)
 bytes_again = trips.bytes_again
 
 -- a held table that is written and loaded is the same table, with the entries past its counts 0
-pub table_again : (t : Table) → held.Sized t → (out : List ℕ) (n : ℕ) → write_table t (length out) ≡ Written n
+pub table_again : (t : Table) → held.Sized t → (out : List ℕ) (n : ℕ) → write_table t (length out) ≡ Ok n
     → (load_table (take n (written t out))).table ≡ held.trimmed t
 table_again = trips.table_again
 
 -- ---- texts
 
 -- the text of an accepted table packs back to the same bytes
-pub text_again : (s : List ℕ) → ((i : ℕ) → get_or s i 0 < 256) → (h : Shape) → read_table s ≡ Accepted h → pack_text (shown s) ≡ packed s
+pub text_again : (s : List ℕ) → ((i : ℕ) → get_or s i 0 < 256) → (h : Shape) → read_table s ≡ Ok h → pack_text (shown s) ≡ packed s
 text_again = texts.packed_again
 
 -- what is packed is an accepted table, and a text with a fault gives no byte
 pub packed_accepted : (t : List ℕ) (n : ℕ) → (pack_text t).packing ≡ Packed n
-    → (h : Shape) × (read_table (pack_text t).bytes ≡ Accepted h) × (n ≡ length (pack_text t).bytes)
+    → (h : Shape) × (read_table (pack_text t).bytes ≡ Ok h) × (n ≡ length (pack_text t).bytes)
 packed_accepted = answers.packed_accepted
 
 pub fault_alone : (t : List ℕ) (f : Fault) → (pack_text t).packing ≡ Faulty f → (pack_text t).bytes ≡ []

@@ -7,7 +7,7 @@ use native.Mathlib.Omega.{arith}
 use Rattle.searches.specs.Searches.{first, best, all, some, largest}
 use Rattle.searches.specs.Indexed.{sum_to, every}
 use Rattle.table.specs.declared.Shape.{Shape}
-use Rattle.table.specs.declared.Reading.TheVariants.{Accepted}
+use Rattle.std.specs.Prelude.{Ok}
 use Rattle.table.specs.Fields.{word_at}
 use Rattle.table.specs.Rules.{task_rule, place_from, sum_after, use_rule}
 use Rattle.table.specs.Reading.{task_step, use_step, end_step, step_at, read_from, read_table}
@@ -65,7 +65,7 @@ saw = seen_under above_system (table_of (fresh_of bytes shape)) (in_turn calls)
 -- 0, by the call 4, has a deadline of 4, and is there in the tick 5, before which it didn't execute; so not every job is over within its bound, and
 -- not even its work is done.
 pub record Late : Type 0 where
-  pub accepted : read_table bytes ≡ Accepted shape
+  pub accepted : read_table bytes ≡ Ok shape
   pub verdict : (analysed bytes 100000).verdict ≡ true
   pub told : (answer_at (analysed bytes 100000) 0 ≡ Bound 4) × (answer_at (analysed bytes 100000) 1 ≡ Bound 3)
       × (answer_at (analysed bytes 100000) 2 ≡ Bound 8)
@@ -79,7 +79,7 @@ pub record Late : Type 0 where
 
 -- what the checker computes: the answers, the deadline, the tests, what the call 4 brings about and what doesn't follow, how many calls there are, and
 -- the work of job 2 before the tick 5
-computed : ((read_table bytes ≡ Accepted shape) × ((analysed bytes 100000).verdict ≡ true) × (answer_at (analysed bytes 100000) 0 ≡ Bound 4)
+computed : ((read_table bytes ≡ Ok shape) × ((analysed bytes 100000).verdict ≡ true) × (answer_at (analysed bytes 100000) 0 ≡ Bound 4)
     × (answer_at (analysed bytes 100000) 1 ≡ Bound 3) × (answer_at (analysed bytes 100000) 2 ≡ Bound 8) × ((task_of bytes 1).deadline ≡ 4))
     × (Passes bytes shape counts saw × (all (ends_promptly bytes shape counts saw) shape.tasks ≡ true))
     × ((saw.event 4 ≡ released 2) × (never saw.event (ended 2) 4 (calls_by clock 5) ≡ true))

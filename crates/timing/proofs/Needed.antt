@@ -7,7 +7,7 @@ use native.Mathlib.Omega.{arith}
 use Rattle.searches.specs.Searches.{first, best, all, some, largest}
 use Rattle.searches.specs.Indexed.{sum_to, every}
 use Rattle.table.specs.declared.Shape.{Shape}
-use Rattle.table.specs.declared.Reading.TheVariants.{Accepted}
+use Rattle.std.specs.Prelude.{Ok}
 use Rattle.table.specs.Fields.{word_at}
 use Rattle.table.specs.Rules.{task_rule, place_from, sum_after, use_rule}
 use Rattle.table.specs.Reading.{task_step, use_step, end_step, step_at, read_from, read_table}
@@ -59,7 +59,7 @@ saw = seen_under machine.in_force (table_of (fresh_of bytes shape)) (in_turn cal
 -- The table is accepted, its verdict is yes with the bounds 1 and 3, and the jobs keep to it. Job 1 comes at the instant 0, by the call 1, and is there
 -- in the tick 3; so it isn't over within its bound.
 pub record Unprompt : Type 0 where
-  pub accepted : read_table bytes ≡ Accepted shape
+  pub accepted : read_table bytes ≡ Ok shape
   pub told : (answer_at (analysed bytes 100000) 0 ≡ Bound 1) × (answer_at (analysed bytes 100000) 1 ≡ Bound 3)
   pub obeyed : Obeys bytes shape clock saw
   pub comes : At clock 1 0
@@ -67,7 +67,7 @@ pub record Unprompt : Type 0 where
   pub not_over_then : OverWithin clock saw 1 1 0 3 → ⊥
 
 -- what the checker computes: the answers, the tests, what the call 1 brings about and what doesn't follow, how many calls there are
-computed : ((read_table bytes ≡ Accepted shape) × (answer_at (analysed bytes 100000) 0 ≡ Bound 1) × (answer_at (analysed bytes 100000) 1 ≡ Bound 3))
+computed : ((read_table bytes ≡ Ok shape) × (answer_at (analysed bytes 100000) 0 ≡ Bound 1) × (answer_at (analysed bytes 100000) 1 ≡ Bound 3))
     × Passes bytes shape counts saw
     × ((saw.event 1 ≡ released 1) × (never saw.event (ended 1) 1 (calls_by clock 3) ≡ true))
     × ((calls_by clock 0 ≡ 2) × (calls_by clock 3 ≡ 6))

@@ -10,7 +10,7 @@ use borrow.Author.Tests.{ltb-true, not-false}
 use Rattle.searches.proofs.Searching.{all_fails}
 use Rattle.searches.proofs.Testing.{and_true}
 use Rattle.table.specs.declared.Shape.{Shape}
-use Rattle.table.specs.declared.Reading.TheVariants as reading
+use Rattle.std.specs.Prelude.{Ok}
 use Rattle.table.specs.Reading.{read_table}
 use Rattle.table.specs.WellFormed.{task_of}
 use Rattle.table.proofs.Accepted.{well_formed}
@@ -37,6 +37,7 @@ use Rattle.scheduler.specs.declared.Reply.{Reply}
 use Rattle.scheduler.specs.View.{table_of}
 use Rattle.scheduler.specs.Replies.{running_of}
 use Rattle.scheduler.specs.Fresh.{fresh_of}
+use Rattle.arrays.specs.Denials.{refusal_number}
 use Rattle.scheduler.specs.Driven.{Driven}
 use Rattle.scheduler.proofs.Beginning.{byte_of, fresh_accepted}
 use Rattle.scheduler.proofs.Theorems.{state_is, event_is, running_is, refusal_is}
@@ -124,7 +125,7 @@ over_in_time G i a r lt e h P = go (never (ev G) end a due) refl
 
 -- ---- from the bytes of a table
 
-module _ (s : List ℕ) (h : Shape) (accepted : read_table s ≡ reading.Accepted h) where
+module _ (s : List ℕ) (h : Shape) (accepted : read_table s ≡ Ok h) where
   -- the scheduler's table
   abbrev T : Table
   T = table_of (fresh_of s h)
@@ -217,15 +218,15 @@ module _ {s : List ℕ} {h : Shape} {calls : ℕ → Call} {S : ℕ → Schedule
         subst (InTime s h allowance K) (sym seen_is) (in_time s h D.reads calls K (subst (Obeys s h K) seen_is O) allowance)
 
     -- and a release T or more after it is refused with 12 only where its end is called later at that instant
-    pub calls_released_in_time : (allowance : ℕ) → ReleasedInTime s h allowance calls K (seen calls S R) (λ k. (R k).refusal)
+    pub calls_released_in_time : (allowance : ℕ) → ReleasedInTime s h allowance calls K (seen calls S R) (λ k. refusal_number (R k).refusal)
     calls_released_in_time allowance =
-        subst (λ X. ReleasedInTime s h allowance calls K X (λ k. (R k).refusal)) (sym seen_is)
+        subst (λ X. ReleasedInTime s h allowance calls K X (λ k. refusal_number (R k).refusal)) (sym seen_is)
         (subst (ReleasedInTime s h allowance calls K (seen_under in_force (table_of (fresh_of s h)) calls)) (sym (fun_ext (refusal_is D)))
         (released_in_time s h D.reads calls K (subst (Obeys s h K) seen_is O) allowance))
 
 -- ---- the former rule
 
-module _ (s : List ℕ) (h : Shape) (accepted : read_table s ≡ reading.Accepted h) (zeros : (i : ℕ) → i < h.tasks → (task_of s i).setting ≡ 0)
+module _ (s : List ℕ) (h : Shape) (accepted : read_table s ≡ Ok h) (zeros : (i : ℕ) → i < h.tasks → (task_of s i).setting ≡ 0)
     (calls : ℕ → Call)
   where
     -- the scheduler's table, and that its settings are 0

@@ -7,7 +7,7 @@ use native.Mathlib.Omega.{arith}
 use Rattle.searches.specs.Searches.{first, best, all, some, largest}
 use Rattle.searches.specs.Indexed.{sum_to, every}
 use Rattle.table.specs.declared.Shape.{Shape}
-use Rattle.table.specs.declared.Reading.TheVariants.{Accepted}
+use Rattle.std.specs.Prelude.{Ok}
 use Rattle.table.specs.Fields.{word_at}
 use Rattle.table.specs.Rules.{task_rule, place_from, sum_after, use_rule}
 use Rattle.table.specs.Reading.{task_step, use_step, end_step, step_at, read_from, read_table}
@@ -64,7 +64,7 @@ saw = seen_under machine.in_force (table_of (fresh_of bytes shape)) (in_turn cal
 -- The table is accepted, its tasks are told 5 and 6, and the jobs, as they are seen, keep to it and are completed at once. Both come at the instant 0,
 -- job 2 by the call 2 and job 1 by the call 0; job 2 is there in the tick 4, and job 1 in the tick 5. So neither is over within less than its bound.
 pub record Reached (X : Seen) : Type 0 where
-  pub accepted : read_table bytes ≡ Accepted shape
+  pub accepted : read_table bytes ≡ Ok shape
   pub told : (answer_at (analysed bytes 100000) 0 ≡ Bound 5) × (answer_at (analysed bytes 100000) 1 ≡ Bound 6)
   pub obeyed : Obeys bytes shape clock X
   pub prompt : (i a r : ℕ) → i < 2 → At clock a r → Prompt bytes clock X i a r
@@ -73,7 +73,7 @@ pub record Reached (X : Seen) : Type 0 where
   pub no_sooner : (v : ℕ) → (OverWithin clock X 2 2 0 v → 5 ≤ v) × (OverWithin clock X 1 0 0 v → 6 ≤ v)
 
 -- what the checker computes: the answers, the tests, what the calls 2 and 0 bring about and what doesn't follow, how many calls there are by then
-computed : ((read_table bytes ≡ Accepted shape) × (answer_at (analysed bytes 100000) 0 ≡ Bound 5) × (answer_at (analysed bytes 100000) 1 ≡ Bound 6))
+computed : ((read_table bytes ≡ Ok shape) × (answer_at (analysed bytes 100000) 0 ≡ Bound 5) × (answer_at (analysed bytes 100000) 1 ≡ Bound 6))
     × (Passes bytes shape counts saw × (all (ends_promptly bytes shape counts saw) shape.tasks ≡ true))
     × (((saw.event 2 ≡ released 2) × (never saw.event (ended 2) 2 (calls_by clock 4) ≡ true))
     × ((saw.event 0 ≡ released 1) × (never saw.event (ended 1) 0 (calls_by clock 5) ≡ true)))

@@ -1,7 +1,7 @@
 -- In time: where the analysis of a table's bytes tells a task a bound, the work of each of its jobs is done within it, as long as the jobs keep to the
 -- table; and where work that has ended is completed at once the job is over. Here is what it is for calls to be made at instants, for a job to execute
 -- and to sleep, to keep to a table, and to be done and over in time.
-use Rattle.std.specs.Prelude.{ℕ, zero, suc, ◌+◌, ◌≤◌, ◌<◌, ◌≡◌, Bool, List, eqb}
+use Rattle.std.specs.Prelude.{ℕ, zero, suc, ◌+◌, ◌≤◌, ◌<◌, ◌≡◌, Bool, List, eqb, Option, None, Some}
 use Rattle.searches.specs.Searches.{only}
 use Rattle.searches.specs.Indexed.{sum_to}
 use Rattle.table.specs.declared.Shape.{Shape}
@@ -16,7 +16,7 @@ use Rattle.protocol.specs.Checks.{Call, release}
 use Rattle.protocol.specs.Step.{step}
 use Rattle.protocol.specs.Trace.{Event, released, ended, after, event, Open, Has}
 use Rattle.scheduler.specs.declared.Scheduler.{Scheduler}
-use Rattle.scheduler.specs.declared.Running.{Running}
+use Rattle.arrays.specs.declared.Number.{Number}
 use Rattle.scheduler.specs.declared.Reply.{Reply}
 use Rattle.scheduler.specs.View.{state_of}
 use Rattle.scheduler.specs.Replies.{running_of}
@@ -48,9 +48,9 @@ pub record Seen : Type 0 where
   pub asleep : ℕ → ℕ → Bool
 
 -- the priority in a reply
-abbrev pub priority_in : Running → ℕ
-priority_in Running.Idle = 0
-priority_in (Running.Runs job) = job.priority
+abbrev pub priority_in : Option Number → ℕ
+priority_in None = 0
+priority_in (Some job) = job.priority
 
 -- of the scheduler's own calls, each told by its reply: `S k` is the scheduler after k calls, and `R k` the reply to the call k
 abbrev pub seen : (ℕ → Call) → (ℕ → Scheduler) → (ℕ → Reply) → Seen
