@@ -1,16 +1,16 @@
 -- The lines of the tasks, one after the other.
-use Rattle.std.proofs.Common.{◌≡◌, ℕ, zero, suc, ◌+◌, ◌*◌, ◌≤◌, ◌<◌, List, [], ◌++◌, length, refl, arith, add-one, length-append, Bool, true, false, cond, ltb}
+use Rattle.std.proofs.Common.{◌≡◌, ℕ, zero, suc, ◌+◌, ◌*◌, ◌≤◌, ◌<◌, List, [], ◌++◌, length, refl, arith, add-one, length-append, Bool, true, false, Option, Some, None}
 use native.Mathlib.Decide.{dec_lt}
 use Rattle.table.specs.declared.Task.{Task}
+use Rattle.table.specs.declared.Refusal.{Refusal}
 use Rattle.table.specs.WellFormed.{task_of}
 use Rattle.analysis.specs.declared.Analysis.{Analysis}
 use Rattle.analysis.specs.declared.TaskAnswer.{TaskAnswer}
 use Rattle.analysis.specs.declared.TaskAnswer.TheVariants.{Bound, Conditional, Nothing}
 use Rattle.analysis.specs.Answering.{answer_at}
 use Rattle.words.specs.Text.{text, labelled, newline}
-use Rattle.words.specs.Refusing.{refusal_line}
 use Rattle.words.proofs.Words.{labelled_few, refusal_few}
-use Rattle.lines.specs.Lines.{verdict_text, answer_text, task_line, task_lines, lines_of}
+use Rattle.lines.specs.Lines.{verdict_text, answer_text, task_line, task_lines, refusal_or, lines_of}
 
 -- none
 pub task_lines_none : (s : List ℕ) (a : Analysis) → task_lines s a 0 ≡ []
@@ -73,11 +73,11 @@ verdict_few false evaluations = omega (arith, labelled_few (text "verdict no eva
 
 -- all that is printed of an analysis
 pub lines_few : (s : List ℕ) (a : Analysis) → a.tasks ≤ 32 → length (lines_of s a) ≤ 4096
-lines_few s a l = go (ltb 0 a.refusal.number)
+lines_few s a l = go a.refusal
   where
-    go : (x : Bool) → length (cond x (refusal_line a.refusal) (verdict_text a.verdict a.evaluations ++ (newline ++ task_lines s a a.tasks))) ≤ 4096
-    go true = omega (arith, refusal_few a.refusal)
-    go false =
+    go : (r : Option Refusal) → length (refusal_or r (verdict_text a.verdict a.evaluations ++ (newline ++ task_lines s a a.tasks))) ≤ 4096
+    go (Some refusal) = omega (arith, refusal_few refusal)
+    go None =
         let told = verdict_text a.verdict a.evaluations in
         let rest = task_lines s a a.tasks in
         omega (

@@ -1,6 +1,7 @@
 -- The lines that the bounds program prints.
-use Rattle.std.specs.Prelude.{ℕ, zero, suc, Bool, true, false, cond, List, [], ◌++◌, ltb}
+use Rattle.std.specs.Prelude.{ℕ, zero, suc, Bool, true, false, Option, Some, None, List, [], ◌++◌}
 use Rattle.table.specs.declared.Task.{Task}
+use Rattle.table.specs.declared.Refusal.{Refusal}
 use Rattle.table.specs.WellFormed.{task_of}
 use Rattle.analysis.specs.declared.Analysis.{Analysis}
 use Rattle.analysis.specs.declared.TaskAnswer.{TaskAnswer}
@@ -30,11 +31,14 @@ unfoldable pub task_lines : List ℕ → Analysis → ℕ → List ℕ
 task_lines s a zero = []
 task_lines s a (suc k) = task_lines s a k ++ task_line (task_of s k) (answer_at a k)
 
+-- a refusal's line alone, or where there is none, a text
+abbrev pub refusal_or : Option Refusal → List ℕ → List ℕ
+refusal_or (Some refusal) t = refusal_line refusal
+refusal_or None t = t
+
 -- a refusal alone, or the verdict and then every task
 abbrev pub lines_of : List ℕ → Analysis → List ℕ
-lines_of s a =
-    cond (ltb 0 a.refusal.number) (refusal_line a.refusal)
-    (verdict_text a.verdict a.evaluations ++ (newline ++ task_lines s a a.tasks))
+lines_of s a = refusal_or a.refusal (verdict_text a.verdict a.evaluations ++ (newline ++ task_lines s a a.tasks))
 
 -- what the bounds program prints of a table's bytes
 abbrev pub printed : List ℕ → ℕ → List ℕ

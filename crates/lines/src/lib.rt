@@ -32,8 +32,8 @@ fn put_lines(page: &mut Page, bytes: &[u8], analysis: &Analysis)
     requires room { length (lines_of bytes.now analysis.now) ≤ room page.old }
     ensures { Puts page.old (lines_of bytes.now analysis.now) page.new }
 {
-    if 0 < analysis.refusal.number {
-        page.refusal(analysis.refusal);
+    if let Some(refusal) = analysis.refusal {
+        page.refusal(refusal);
     } else {
         put_verdict(page, analysis.verdict, analysis.evaluations);
         page.text(b"\n");
