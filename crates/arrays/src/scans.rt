@@ -9,16 +9,17 @@ use crate::marks::{is_asleep, is_eligible, is_leading, is_unfinished};
 use crate::{Entries, Number, Tasks};
 
 impl Entries {
-    // The largest setting among started, unfinished jobs, else 0.
+    // The largest setting among started, unfinished jobs, else 0. Each setting is read before the test, so that the loop becomes wide instructions.
     fn system_priority(&self, tasks: &Tasks) -> u8
         requires { tasks.now.count ≤ 32 }
         ensures { result ≡ system_priority (tasks_of tasks.now) (entries_of self.now) }
     {
         let mut highest: u8 = 0;
         for i in 0..tasks.count {
+            let setting = tasks.settings[i];
             let counts = self.started[i] & is_unfinished(self.states[i]);
-            let setting = if counts { tasks.settings[i] } else { 0 };
-            highest = highest.max(setting);
+            let counted = if counts { setting } else { 0 };
+            highest = highest.max(counted);
         }
         highest
     }
@@ -30,10 +31,10 @@ impl Entries {
     {
         let mut highest: u8 = 0;
         for i in 0..tasks.count {
-            let p = tasks.priorities[i];
-            let eligible = is_eligible(self.states[i], self.held[i], system, p);
-            let priority = if eligible { p } else { 0 };
-            highest = highest.max(priority);
+            let priority = tasks.priorities[i];
+            let eligible = is_eligible(self.states[i], self.held[i], system, priority);
+            let counted = if eligible { priority } else { 0 };
+            highest = highest.max(counted);
         }
         highest
     }

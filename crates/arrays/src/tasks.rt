@@ -40,9 +40,10 @@ impl Tasks {
     {
         let mut highest: u8 = 0;
         for i in 0..self.count {
+            let priority = self.priorities[i];
             let uses = count_at(&self.uses, i, resource);
-            let priority = if 0 < uses { self.priorities[i] } else { 0 };
-            highest = highest.max(priority);
+            let counted = if 0 < uses { priority } else { 0 };
+            highest = highest.max(counted);
         }
         highest
     }

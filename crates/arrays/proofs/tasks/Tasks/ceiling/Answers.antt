@@ -15,8 +15,8 @@ loop-i-init c = refl
 pub loop-i-preserved : goal.loop-i-preserved
 loop-i-preserved c = largest_on (user_priority (tasks_of c.args.self.now) c.args.resource) c.loop-i.i _
     (c.max-highest.ensures ∙ ap₂ max c.loop-i.invariant (elim c.if-uses-gt0.branch [
-      | then-uses-gt0 w ↦ rw (← c.count_at-uses.ensures, lt-ltb 0 c.count_at-uses.result w.if-uses-gt0.true) w.priority-is
-      | else-uses-gt0 w ↦ rw (← c.count_at-uses.ensures, le-ltb 0 c.count_at-uses.result w.if-uses-gt0.false) w.priority-is
+      | then-uses-gt0 w ↦ rw (← c.count_at-uses.ensures, lt-ltb 0 c.count_at-uses.result w.if-uses-gt0.true) w.counted-is
+      | else-uses-gt0 w ↦ rw (← c.count_at-uses.ensures, le-ltb 0 c.count_at-uses.result w.if-uses-gt0.false) w.counted-is
     ]))
 
 pub returns : goal.returns
