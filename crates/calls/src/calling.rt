@@ -1,53 +1,38 @@
 // Cases that make one call.
-ghost use Rattle.std.specs.Prelude.{◌≤◌};
-
 use crate::replies::put_answer;
-use crate::{Turn, on, over};
-use harness::input::{filled, front, short_at};
+use harness::input::{Stop, byte, record};
 use scheduler::{Number, Reply, Scheduler};
-use std::io;
 use std::io::{Read, Write};
-use table::byte_at;
 
-// How many bytes follow a call's letter, 0 where it is none.
-fn length_of(kind: u8) -> usize
-    ensures { result ≤ 4 }
-{
-    match kind {
-        b'r' => 1,
-        b'w' | b's' | b'c' => 3,
-        b'l' | b'u' => 4,
-        _ => 0,
-    }
+// Reads the number of a job.
+fn job(input: &mut impl Read) -> Result<Number, Stop> {
+    let priority = byte(input)?;
+    let serial = u16::from_le_bytes(record(input)?);
+    Ok(Number { priority, serial })
 }
 
-// Makes the call of a letter.
-fn call(scheduler: Scheduler, kind: u8, job: Number, resource: u8) -> Reply {
+// Reads the rest of the call of a letter, and makes it. Where it is no call's letter, the cases are over.
+fn call(input: &mut impl Read, scheduler: Scheduler, kind: u8) -> Result<Reply, Stop> {
     match kind {
-        b'r' => scheduler.release(job.priority),
-        b'w' => scheduler.resume(job),
-        b'l' => scheduler.lock(job, resource),
-        b'u' => scheduler.unlock(job, resource),
-        b's' => scheduler.suspend(job),
-        _ => scheduler.complete(job),
+        b'r' => {
+            let priority = byte(input)?;
+            Ok(scheduler.release(priority))
+        }
+        b'w' => Ok(scheduler.resume(job(input)?)),
+        b'l' => {
+            let job = job(input)?;
+            let resource = byte(input)?;
+            Ok(scheduler.lock(job, resource))
+        }
+        b'u' => {
+            let job = job(input)?;
+            let resource = byte(input)?;
+            Ok(scheduler.unlock(job, resource))
+        }
+        b's' => Ok(scheduler.suspend(job(input)?)),
+        b'c' => Ok(scheduler.complete(job(input)?)),
+        _ => Err(Stop::Over),
     }
-}
-
-// Makes a call and prints its line.
-fn put_call(
-    out: &mut impl Write,
-    scheduler: Scheduler,
-    kind: u8,
-    bytes: &[u8],
-) -> io::Result<Scheduler> {
-    let job = Number {
-        priority: byte_at(bytes, 0),
-        serial: short_at(bytes, 1) as u16,
-    };
-    let reply = call(scheduler, kind, job, byte_at(bytes, 3));
-    let running = reply.running;
-    put_answer(out, reply.refusal, running)?;
-    Ok(reply.state)
 }
 
 // Reads the rest of such a case, prints its line and answers the next scheduler.
@@ -56,14 +41,9 @@ pub fn run(
     out: &mut impl Write,
     scheduler: Scheduler,
     kind: u8,
-) -> io::Result<Turn> {
-    let mut bytes = [0u8; 4];
-    let length = length_of(kind);
-    if length == 0 {
-        return Ok(over(scheduler));
-    }
-    if !filled(input, front(&mut bytes, length))? {
-        return Ok(over(scheduler));
-    }
-    Ok(on(put_call(out, scheduler, kind, &bytes)?))
+) -> Result<Scheduler, Stop> {
+    let reply = call(input, scheduler, kind)?;
+    let running = reply.running;
+    put_answer(out, reply.refusal, running)?;
+    Ok(reply.state)
 }

@@ -5,47 +5,25 @@ mod burst;
 mod calling;
 mod made_up;
 mod replies;
+mod setting_up;
 mod state_sum;
 
-use harness::input::filled;
+use harness::input::{Stop, byte};
 use scheduler::Scheduler;
 use std::fs::File;
 use std::io;
 use std::io::{Read, Write};
 
-// Where a run stands: the scheduler, and whether the cases are over.
-#[derive(Clone, Copy)]
-struct Turn {
+// Runs one case and answers the next scheduler. Where what stands there is no case, the cases are over.
+fn run_case(
+    input: &mut impl Read,
+    out: &mut impl Write,
     scheduler: Scheduler,
-    over: bool,
-}
-
-// The same scheduler, with no case left.
-fn over(scheduler: Scheduler) -> Turn {
-    Turn {
-        scheduler,
-        over: true,
-    }
-}
-
-// The next scheduler.
-fn on(scheduler: Scheduler) -> Turn {
-    Turn {
-        scheduler,
-        over: false,
-    }
-}
-
-// Runs one case: it is over at the end of the input, and where what stands there is no case.
-fn run_case(input: &mut impl Read, out: &mut impl Write, scheduler: Scheduler) -> io::Result<Turn> {
-    let mut byte = [0u8; 1];
-    if !filled(input, &mut byte)? {
-        return Ok(over(scheduler));
-    }
-    let kind = byte[0];
+) -> Result<Scheduler, Stop> {
+    let kind = byte(input)?;
     match kind {
-        b'T' => made_up::set_up(input, out, scheduler),
-        b'M' => made_up::run(input, scheduler),
+        b'T' => setting_up::run(input, out),
+        b'M' => made_up::run(input),
         b'B' => burst::run(input, out, scheduler),
         b'S' => state_sum::run(out, scheduler),
         _ => calling::run(input, out, scheduler, kind),
@@ -53,17 +31,10 @@ fn run_case(input: &mut impl Read, out: &mut impl Write, scheduler: Scheduler) -
 }
 
 // Runs the cases one after the other, at most 1,000,000, since nothing says that the input ends.
-fn run_cases(input: &mut impl Read, out: &mut impl Write) -> io::Result<()> {
-    let ready = scheduler::set_up(b"");
-    let mut scheduler = ready.scheduler;
-    let mut left: usize = 1000000;
-    while left > 0 {
-        let turn = run_case(input, out, scheduler)?;
-        if turn.over {
-            return Ok(());
-        }
-        scheduler = turn.scheduler;
-        left -= 1;
+fn run_cases(input: &mut impl Read, out: &mut impl Write) -> Result<(), Stop> {
+    let mut scheduler = scheduler::set_up(b"").scheduler;
+    for _ in 0..1_000_000 {
+        scheduler = run_case(input, out, scheduler)?;
     }
     Ok(())
 }
@@ -71,5 +42,5 @@ fn run_cases(input: &mut impl Read, out: &mut impl Write) -> io::Result<()> {
 // Runs the cases of the file `calls`: a program is run inside the folder data/.
 fn main(rt: HostRuntime) -> io::Result<()> {
     let mut input = File::open(&rt, "calls")?;
-    run_cases(&mut input, &mut rt.stdout())
+    run_cases(&mut input, &mut rt.stdout()).or_else(Stop::answer)
 }

@@ -1,34 +1,24 @@
 // Printing and adding up answers.
-use harness::output::{end_line, put, put_text};
-use harness::sums::mixed;
+use harness::sums::Checksum;
 use scheduler::{Number, Running};
 use std::io;
 use std::io::Write;
 
 // Prints the line of an answer.
 pub fn put_answer(out: &mut impl Write, refusal: u8, running: Running) -> io::Result<()> {
-    put(out, b"", refusal as u64)?;
     match running {
-        Running::Idle => put_text(out, b" idle")?,
-        Running::Runs(job) => {
-            put(out, b" ", job.priority as u64)?;
-            put(out, b" ", job.serial as u64)?;
-        }
-    }
-    end_line(out)
-}
-
-// The checksum after a running job, or after idle.
-fn with_running(h: u64, running: Running) -> u64 {
-    match running {
-        Running::Idle => mixed(mixed(h, 256), 0),
-        Running::Runs(job) => mixed(mixed(h, job.priority as u64), job.serial as u64),
+        Running::Idle => writeln!(out, "{refusal} idle"),
+        Running::Runs(job) => writeln!(out, "{refusal} {} {}", job.priority, job.serial),
     }
 }
 
-// The checksum after an answer.
-pub fn with_answer(h: u64, refusal: u8, running: Running) -> u64 {
-    with_running(mixed(h, refusal as u64), running)
+// The checksum after an answer, its running job or idle.
+pub fn with_answer(sum: Checksum, refusal: u8, running: Running) -> Checksum {
+    let sum = sum.with(refusal);
+    match running {
+        Running::Idle => sum.with(256u64).with(0u64),
+        Running::Runs(job) => sum.with(job.priority).with(job.serial),
+    }
 }
 
 // A number that no job has.
@@ -41,11 +31,8 @@ fn nobody() -> Number {
 
 // The number of the job that a release says runs; nobody's where it was refused, or where none runs.
 pub fn named(refusal: u8, running: Running) -> Number {
-    if 0 < refusal {
-        return nobody();
-    }
     match running {
-        Running::Idle => nobody(),
-        Running::Runs(job) => job,
+        Running::Runs(job) if refusal == 0 => job,
+        _ => nobody(),
     }
 }

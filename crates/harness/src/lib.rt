@@ -1,6 +1,5 @@
-// What the programs read their input by, and those that run the second program's cases print by.
+// What the programs read their input by, what the run of the cases ends by, and the checksums of what is printed.
 #![tactic(auto)]
 
 pub mod input;
-pub mod output;
 pub mod sums;

@@ -1,17 +1,50 @@
-// Checksums: h starts at 0, and each number x makes it (h * 257 + x) % 1000003.
+// Checksums.
+ghost use Rattle.std.specs.Prelude.{◌≡◌, ℕ, ◌<◌};
+ghost use Rattle.harness.specs.Sums.{after_number, after_numbers};
 
-// The checksum after one number more. Both are reduced first, so that the product fits whatever they are.
-pub fn mixed(h: u64, x: u64) -> u64 {
-    (h % 1000003 * 257 + x % 1000003) % 1000003
+use std::fmt;
+
+// A checksum: it starts at 0, and each number x makes it (it * 257 + x) % 1000003.
+#[derive(Clone, Copy)]
+pub struct Checksum {
+    pub value: u64,
+    pub ghost reduced: { value < 1000003 },
 }
 
-// The checksum after the numbers of some bytes.
-pub fn with_bytes(h: u64, bytes: &[u8]) -> u64 {
-    let mut sum = h;
-    let mut i = 0;
-    while i < bytes.len() {
-        sum = mixed(sum, table::byte_at(bytes, i) as u64);
-        i += 1;
+impl Checksum {
+    // That of no number.
+    pub fn start() -> Checksum
+        ensures { result.value ≡ 0 }
+    {
+        Checksum { value: 0 }
     }
-    sum
+
+    // That after one number more.
+    pub fn with<N: Into<u64>>(self, number: N) -> Checksum
+        ensures { (x : ℕ) × N.converts number x × (result.value ≡ after_number self.value x) }
+    {
+        // the number is reduced first, so that the sum fits
+        let number = number.into() % 1000003;
+        Checksum {
+            value: (self.value * 257 + number) % 1000003,
+        }
+    }
+
+    // That after the numbers of some bytes.
+    pub fn with_bytes(self, bytes: &[u8]) -> Checksum
+        ensures { result.value ≡ after_numbers self.value bytes.now }
+    {
+        bytes.iter().fold(self, |sum, byte| sum.with(*byte))
+    }
+}
+
+impl fmt::Display for Checksum {
+    ghost use Rattle.std.specs.Prelude.{Some};
+    ghost use Rattle.std.specs.Fmt.{decimal};
+
+    ghost output = { λ sum. Some (decimal sum.value) };
+
+    fn fmt<W: fmt::Write>(&self, f: &mut fmt::Formatter<W>) -> fmt::Result {
+        write!(f, "{}", self.value)
+    }
 }

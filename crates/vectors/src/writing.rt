@@ -1,92 +1,61 @@
 // Cases that write a held table.
-use harness::input::{byte_at, filled, front, long_of, short_at};
-use harness::output::{end_line, put, put_refusal};
-use harness::sums::with_bytes;
+ghost use Rattle.std.specs.Prelude.{◌<◌};
+
+use harness::input::{Stop, byte, fill, record};
+use harness::sums::Checksum;
 use held::{Table, Writing};
 use std::io;
 use std::io::{Read, Write};
-use table::{Task, Use};
 
-// Reads so many bytes of images into a buffer and answers whether they fit and were there. The first byte is skipped, the place of a kind.
-fn read_images(input: &mut impl Read, length: usize, images: &mut [u8]) -> io::Result<bool> {
-    if images.len() <= length {
-        return Ok(false);
+// Reads an image for each of some entries. An image has so many bytes, those of a record without its first.
+fn read_images<T: Drop, F: Fn(&[u8]) -> T>(
+    input: &mut impl Read,
+    entries: &mut [T],
+    size: usize,
+    entry_of: F,
+) -> Result<(), Stop>
+    requires size { size < 20 }
+    requires callable { F.IsAlwaysCallable entry_of }
+{
+    for entry in entries {
+        let mut record = [0; 20];
+        fill(input, &mut record[1..=size])?;
+        *entry = entry_of(&record);
     }
-    let end = length + 1;
-    filled(input, &mut images[1..end])
-}
-
-// The tasks of the images in a buffer; past the images it has zeros.
-fn tasks_of(images: &[u8]) -> [Task; 32] {
-    let mut out = [table::task_at(images, 0); 32];
-    let mut i = 0;
-    while i < 32 {
-        out[i] = table::task_at(images, 19 * i);
-        i += 1;
-    }
-    out
-}
-
-// The uses of the images in a buffer; past the images it has zeros.
-fn uses_of(images: &[u8]) -> [Use; 512] {
-    let mut out = [table::use_at(images, 0); 512];
-    let mut i = 0;
-    while i < 512 {
-        out[i] = table::use_at(images, 7 * i);
-        i += 1;
-    }
-    out
-}
-
-// The held table of a case: its counts from the head, its entries from the images.
-fn table_of(head: &[u8], tasks: &[u8], uses: &[u8]) -> Table {
-    Table {
-        tasks: tasks_of(tasks),
-        task_count: long_of(table::word_at(head, 0), table::word_at(head, 4)) as usize,
-        uses: uses_of(uses),
-        use_count: long_of(table::word_at(head, 8), table::word_at(head, 12)) as usize,
-    }
-}
-
-// Prints what the writer answers.
-fn put_writing(out: &mut impl Write, writing: Writing) -> io::Result<()> {
-    match writing {
-        Writing::Written(length) => put(out, b"written ", length as u64),
-        Writing::Refused(refusal) => put_refusal(out, refusal),
-    }
+    Ok(())
 }
 
 // Writes a table to a buffer and prints the line of that.
 fn put_line(out: &mut impl Write, table: Table, buffer: &mut [u8]) -> io::Result<()> {
-    put_writing(out, held::write(table, buffer))?;
-    put(out, b" buffer ", with_bytes(0, buffer))?;
-    end_line(out)
+    match held::write(table, buffer) {
+        Writing::Written(length) => write!(out, "written {length}")?,
+        Writing::Refused(refusal) => {
+            write!(out, "refused {} at {}", refusal.number, refusal.place)?;
+        }
+    }
+    writeln!(out, " buffer {}", Checksum::start().with_bytes(buffer))
 }
 
-// Reads the rest of such a case, prints its line and answers whether it was whole.
-pub fn run(input: &mut impl Read, out: &mut impl Write) -> io::Result<bool> {
-    let mut head = [0u8; 19];
-    if !filled(input, &mut head)? {
-        return Ok(false);
-    }
-    let room = short_at(&head, 16);
-    let mut tasks = [0u8; 609];
-    if !read_images(input, 19 * byte_at(&head, 18), &mut tasks)? {
-        return Ok(false);
-    }
-    let mut count = [0u8; 2];
-    if !filled(input, &mut count)? {
-        return Ok(false);
-    }
-    let mut uses = [0u8; 3585];
-    if !read_images(input, 7 * short_at(&count, 0), &mut uses)? {
-        return Ok(false);
-    }
-    let mut buffer = [170u8; 65535];
-    put_line(
-        out,
-        table_of(&head, &tasks, &uses),
-        front(&mut buffer, room),
-    )?;
-    Ok(true)
+// Reads the rest of such a case and prints its line. Where it has more images than a table has entries, the cases are over.
+pub fn run(input: &mut impl Read, out: &mut impl Write) -> Result<(), Stop> {
+    let task_count = usize::from_le_bytes(record(input)?);
+    let use_count = usize::from_le_bytes(record(input)?);
+    let room = usize::from(u16::from_le_bytes(record(input)?));
+    let mut tasks = [table::no_task(); 32];
+    let count = usize::from(byte(input)?);
+    let images = tasks.get_mut(..count).ok_or(Stop::Over)?;
+    read_images(input, images, 19, |record| table::task_at(record, 0))?;
+    let mut uses = [table::no_use(); 512];
+    let count = usize::from(u16::from_le_bytes(record(input)?));
+    let images = uses.get_mut(..count).ok_or(Stop::Over)?;
+    read_images(input, images, 7, |record| table::use_at(record, 0))?;
+    let mut buffer = [170; 65535];
+    let table = Table {
+        tasks,
+        task_count,
+        uses,
+        use_count,
+    };
+    put_line(out, table, &mut buffer[..room])?;
+    Ok(())
 }

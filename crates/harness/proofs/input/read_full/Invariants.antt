@@ -1,9 +1,8 @@
--- The measure of the loop in `harness::input::read_full`, and what it keeps.
-use Rattle.std.proofs.Common.{length, ◌-◌, ◌≡◌, ◌≤◌}
+-- What the loop in `harness::input::read_full` keeps: each read gave a byte at least, and what was read is the buffer's front.
+use Rattle.std.proofs.Common.{length, take, ◌≡◌, ◌≤◌}
+use Rattle.std.specs.Io.KnownBytes.{Consumes}
 use Rattle.harness.proofs.input.read_full.Given as goal
 
-abbrev pub invariant-loop-count : goal.invariant-loop-count
-invariant-loop-count g l = (l.count ≤ length l.buffer) × (length l.buffer ≡ length l.initial.buffer)
-
-abbrev pub decreases-loop-count : goal.decreases-loop-count
-decreases-loop-count g l = length l.initial.buffer - l.count
+abbrev pub invariant-loop : goal.invariant-loop
+invariant-loop g l = (l.counter ≤ l.count) × (l.count ≤ length l.buffer) × (length l.buffer ≡ length l.initial.buffer)
+    × Consumes (g.R.Read.remaining l.initial.input) (g.R.Read.remaining l.input) (take l.count l.buffer)

@@ -1,0 +1,3 @@
+-- What the contracts of `harness` cite.
+pub mod Stop
+pub mod Sums
