@@ -1,5 +1,5 @@
 // Reading an input, and the parts of a case.
-ghost use Rattle.std.specs.Prelude.{◌≡◌, ◌<◌, ◌≤◌, ◌/◌, ◌%◌, [], ◌∷◌, length, take, Err, IfOk, OnOk, OnErr};
+ghost use Rattle.std.specs.Prelude.{◌≡◌, ◌+◌, ◌*◌, ◌/◌, ◌%◌, ◌<◌, ◌≤◌, [], ◌∷◌, length, slice_index, take, Err, IfOk, IfSome, OnOk, OnErr};
 ghost use Rattle.std.specs.Io.KnownBytes.{Consumes, IsAtEnd};
 ghost use Rattle.harness.specs.Stop.{stopped};
 
@@ -59,6 +59,7 @@ pub fn fill<R: Read>(input: &mut R, buffer: &mut [u8]) -> Result<(), Stop>
     ensures long { length buffer.new ≡ length buffer.old }
     ensures bytes { OnOk result (Consumes (R.remaining input.old) (R.remaining input.new) buffer.new) }
     ensures over { result ≡ Err Stop.Over → IsAtEnd (R.remaining input.new) }
+    ensures short { result ≡ Err Stop.Over → IfSome (R.remaining input.old) (λ bytes. length bytes < length buffer.old) }
 {
     if read_full(input, buffer)? < buffer.len() {
         return Err(Stop::Over);
@@ -70,6 +71,7 @@ pub fn fill<R: Read>(input: &mut R, buffer: &mut [u8]) -> Result<(), Stop>
 pub fn record<R: Read, const N: usize>(input: &mut R) -> Result<[u8; N], Stop>
     ensures bytes { IfOk result (λ bytes. Consumes (R.remaining input.old) (R.remaining input.new) bytes) }
     ensures over { result ≡ Err Stop.Over → IsAtEnd (R.remaining input.new) }
+    ensures short { result ≡ Err Stop.Over → IfSome (R.remaining input.old) (λ bytes. length bytes < N) }
 {
     let mut bytes = [0; N];
     fill(input, &mut bytes)?;
@@ -80,6 +82,7 @@ pub fn record<R: Read, const N: usize>(input: &mut R) -> Result<[u8; N], Stop>
 pub fn byte<R: Read>(input: &mut R) -> Result<u8, Stop>
     ensures byte { IfOk result (λ byte. Consumes (R.remaining input.old) (R.remaining input.new) (byte ∷ [])) }
     ensures over { result ≡ Err Stop.Over → IsAtEnd (R.remaining input.new) }
+    ensures short { result ≡ Err Stop.Over → IsAtEnd (R.remaining input.old) }
 {
     let [byte]: [u8; 1] = record(input)?;
     Ok(byte)
@@ -90,6 +93,8 @@ pub fn part<'b, R: Read>(input: &mut R, buffer: &'b mut [u8; 65535]) -> Result<&
     ensures part { IfOk result (λ part. Consumes (R.remaining input.old) (R.remaining input.new)
         (length part.now % 256 ∷ length part.now / 256 ∷ part.now)) }
     ensures over { result ≡ Err Stop.Over → IsAtEnd (R.remaining input.new) }
+    ensures short { result ≡ Err Stop.Over → IfSome (R.remaining input.old)
+        (λ bytes. length bytes < 2 + slice_index bytes 0 + 256 * slice_index bytes 1) }
 {
     let length = u16::from_le_bytes(record(input)?);
     let part = &mut buffer[..usize::from(length)];

@@ -4,20 +4,17 @@ use crate::texts::put_shown;
 use harness::input::{Stop, byte, part};
 use std::io;
 use std::io::{Read, Write};
-use table::Reading;
 
 // Prints the line of a table and a priority.
 fn put_line(out: &mut impl Write, bytes: &[u8], priority: u8) -> io::Result<()> {
     let loaded = held::load(bytes);
     match loaded.reading {
-        Reading::Accepted(shape) => write!(
+        Ok(shape) => write!(
             out,
             "accepted {} {} {}",
             shape.tasks, shape.uses_at, shape.uses
         )?,
-        Reading::Refused(refusal) => {
-            write!(out, "refused {} at {}", refusal.number, refusal.place)?;
-        }
+        Err(refusal) => write!(out, "{refusal}")?,
     }
     let held = of_table(&loaded.table);
     let record = Summed(table::record_of(bytes, priority));

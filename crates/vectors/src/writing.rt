@@ -3,7 +3,7 @@ ghost use Rattle.std.specs.Prelude.{◌<◌};
 
 use harness::input::{Stop, byte, fill, record};
 use harness::sums::Checksum;
-use held::{Table, Writing};
+use held::Table;
 use std::io;
 use std::io::{Read, Write};
 
@@ -28,10 +28,8 @@ fn read_images<T: Drop, F: Fn(&[u8]) -> T>(
 // Writes a table to a buffer and prints the line of that.
 fn put_line(out: &mut impl Write, table: Table, buffer: &mut [u8]) -> io::Result<()> {
     match held::write(table, buffer) {
-        Writing::Written(length) => write!(out, "written {length}")?,
-        Writing::Refused(refusal) => {
-            write!(out, "refused {} at {}", refusal.number, refusal.place)?;
-        }
+        Ok(length) => write!(out, "written {length}")?,
+        Err(refusal) => write!(out, "{refusal}")?,
     }
     writeln!(out, " buffer {}", Checksum::start().with_bytes(buffer))
 }
