@@ -1,5 +1,5 @@
 // Cases that release and complete a task's job many times.
-use crate::replies::{named, with_answer};
+use crate::replies::{named, with_reply};
 use harness::input::{Stop, byte, record};
 use harness::sums::Checksum;
 use scheduler::Scheduler;
@@ -16,13 +16,11 @@ impl Burst {
     // With one job more: released, and completed under the number that then runs.
     fn once(self, priority: u8) -> Burst {
         let released = self.scheduler.release(priority);
-        let first = released.running;
-        let sum = with_answer(self.sum, released.refusal, first);
-        let completed = released.state.complete(named(released.refusal, first));
-        let second = completed.running;
+        let sum = with_reply(self.sum, &released);
+        let completed = released.state.complete(named(&released));
         Burst {
             scheduler: completed.state,
-            sum: with_answer(sum, completed.refusal, second),
+            sum: with_reply(sum, &completed),
         }
     }
 }

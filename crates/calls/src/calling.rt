@@ -1,7 +1,7 @@
 // Cases that make one call.
-use crate::replies::put_answer;
+use crate::replies::put_reply;
 use harness::input::{Stop, byte, record};
-use scheduler::{Number, Reply, Scheduler};
+use scheduler::{Call, Number, Scheduler};
 use std::io::{Read, Write};
 
 // Reads the number of a job.
@@ -11,26 +11,15 @@ fn job(input: &mut impl Read) -> Result<Number, Stop> {
     Ok(Number { priority, serial })
 }
 
-// Reads the rest of the call of a letter, and makes it. Where it is no call's letter, the cases are over.
-fn call(input: &mut impl Read, scheduler: Scheduler, kind: u8) -> Result<Reply, Stop> {
-    match kind {
-        b'r' => {
-            let priority = byte(input)?;
-            Ok(scheduler.release(priority))
-        }
-        b'w' => Ok(scheduler.resume(job(input)?)),
-        b'l' => {
-            let job = job(input)?;
-            let resource = byte(input)?;
-            Ok(scheduler.lock(job, resource))
-        }
-        b'u' => {
-            let job = job(input)?;
-            let resource = byte(input)?;
-            Ok(scheduler.unlock(job, resource))
-        }
-        b's' => Ok(scheduler.suspend(job(input)?)),
-        b'c' => Ok(scheduler.complete(job(input)?)),
+// Reads the rest of the call of a letter. Where it is no call's letter, the cases are over.
+fn call(input: &mut impl Read, letter: u8) -> Result<Call, Stop> {
+    match letter {
+        b'r' => Ok(Call::Release(byte(input)?)),
+        b'w' => Ok(Call::Resume(job(input)?)),
+        b'l' => Ok(Call::Lock(job(input)?, byte(input)?)),
+        b'u' => Ok(Call::Unlock(job(input)?, byte(input)?)),
+        b's' => Ok(Call::Suspend(job(input)?)),
+        b'c' => Ok(Call::Complete(job(input)?)),
         _ => Err(Stop::Over),
     }
 }
@@ -40,10 +29,9 @@ pub fn run(
     input: &mut impl Read,
     out: &mut impl Write,
     scheduler: Scheduler,
-    kind: u8,
+    letter: u8,
 ) -> Result<Scheduler, Stop> {
-    let reply = call(input, scheduler, kind)?;
-    let running = reply.running;
-    put_answer(out, reply.refusal, running)?;
+    let reply = scheduler.call(call(input, letter)?);
+    put_reply(out, &reply)?;
     Ok(reply.state)
 }

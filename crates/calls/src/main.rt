@@ -20,13 +20,13 @@ fn run_case(
     out: &mut impl Write,
     scheduler: Scheduler,
 ) -> Result<Scheduler, Stop> {
-    let kind = byte(input)?;
-    match kind {
+    let letter = byte(input)?;
+    match letter {
         b'T' => setting_up::run(input, out),
         b'M' => made_up::run(input),
         b'B' => burst::run(input, out, scheduler),
         b'S' => state_sum::run(out, scheduler),
-        _ => calling::run(input, out, scheduler, kind),
+        _ => calling::run(input, out, scheduler, letter),
     }
 }
 

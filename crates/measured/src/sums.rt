@@ -1,41 +1,58 @@
-// Checksums: each number x makes h into 257 times its low 40 bits, and x.
+// Checksums.
 use analysis::{Analysis, TaskAnswer};
-use scheduler::Running;
+use scheduler::{Denial, Number, refusal_number};
+use table::Refusal;
 
-// The checksum after one number more.
-pub fn mixed(h: u64, x: u64) -> u64 {
-    h % 1099511627776 * 257 + x % 1099511627776
+// A checksum: it starts at 0, and each number x makes it 257 times its low 40 bits, and those of x. That of `harness` divides by a prime number
+// instead: this one takes fewer instructions, since they are counted with those of what is measured.
+#[derive(Clone, Copy, Default)]
+pub struct Checksum {
+    pub value: u64,
 }
 
-// The checksum after a task's answer.
-fn with_answer(h: u64, answer: TaskAnswer) -> u64 {
-    match answer {
-        TaskAnswer::Bound(value) => mixed(h, value),
-        TaskAnswer::Conditional(value) => mixed(mixed(h, 1), value),
-        TaskAnswer::Nothing => mixed(h, 0),
+impl Checksum {
+    // That after one number more.
+    pub fn with<N: Into<u64>>(self, number: N) -> Checksum {
+        Checksum {
+            value: self.value % 1099511627776 * 257 + number.into() % 1099511627776,
+        }
     }
-}
 
-// The checksum after an analysis: refusal, place, verdict, evaluations and each task's answer.
-pub fn with_analysis(h: u64, analysis: Analysis) -> u64 {
-    let tasks = analysis.tasks;
-    let mut sum = mixed(h, analysis.refusal.number as u64);
-    sum = mixed(sum, analysis.refusal.place as u64);
-    sum = mixed(sum, if analysis.verdict { 1 } else { 0 });
-    sum = mixed(sum, analysis.evaluations);
-    let mut i: usize = 0;
-    while i < tasks {
-        sum = with_answer(sum, analysis.answer(i));
-        i += 1;
+    // That after the number of a table's refusal, 0 where it is accepted.
+    pub fn with_refusal(self, refusal: Option<Refusal>) -> Checksum {
+        self.with(refusal.map_or(0, |refusal| refusal.why.number()))
     }
-    sum
-}
 
-// The checksum after a call's refusal and running job.
-pub fn with_reply(h: u64, refusal: u8, running: Running) -> u64 {
-    let sum = mixed(h, refusal as u64);
-    match running {
-        Running::Idle => mixed(sum, 16777216),
-        Running::Runs(job) => mixed(sum, job.priority as u64 * 65536 + job.serial as u64),
+    // That after a task's answer.
+    fn with_answer(self, answer: TaskAnswer) -> Checksum {
+        match answer {
+            TaskAnswer::Bound(value) => self.with(value),
+            TaskAnswer::Conditional(value) => self.with(1u64).with(value),
+            TaskAnswer::Nothing => self.with(0u64),
+        }
+    }
+
+    // That after an analysis: refusal, place, verdict, evaluations and each task's answer. The analysis is passed by value, which takes 17 instructions
+    // less of each than a reference to it.
+    pub fn with_analysis(self, analysis: Analysis) -> Checksum {
+        let place = analysis.refusal.map_or(0, |refusal| refusal.place);
+        let mut sum = self
+            .with_refusal(analysis.refusal)
+            .with(place as u64)
+            .with(analysis.verdict)
+            .with(analysis.evaluations);
+        for i in 0..analysis.tasks {
+            sum = sum.with_answer(analysis.answer(i));
+        }
+        sum
+    }
+
+    // That after a call's refusal and running job.
+    pub fn with_reply(self, refusal: Option<Denial>, running: Option<Number>) -> Checksum {
+        let sum = self.with(refusal_number(refusal));
+        match running {
+            None => sum.with(16777216u64),
+            Some(job) => sum.with(u64::from(job.priority) * 65536 + u64::from(job.serial)),
+        }
     }
 }

@@ -14,8 +14,8 @@ use std::io::{Read, Write};
 
 // Runs one case. Where what stands there is no case, the cases are over.
 fn run_case(input: &mut impl Read, out: &mut impl Write) -> Result<(), Stop> {
-    let kind = byte(input)?;
-    match kind {
+    let letter = byte(input)?;
+    match letter {
         b'A' => analysing::run(input, out),
         b'L' => texts::run_long(input, out),
         b'P' => texts::run(input, out),

@@ -41,12 +41,12 @@ pub fn run(input: &mut impl Read, out: &mut impl Write) -> Result<(), Stop> {
     let room = usize::from(u16::from_le_bytes(record(input)?));
     let mut tasks = [table::no_task(); 32];
     let count = usize::from(byte(input)?);
-    let images = tasks.get_mut(..count).ok_or(Stop::Over)?;
-    read_images(input, images, 19, |record| table::task_at(record, 0))?;
+    let entries = tasks.get_mut(..count).ok_or(Stop::Over)?;
+    read_images(input, entries, 19, |record| table::task_at(record, 0))?;
     let mut uses = [table::no_use(); 512];
     let count = usize::from(u16::from_le_bytes(record(input)?));
-    let images = uses.get_mut(..count).ok_or(Stop::Over)?;
-    read_images(input, images, 7, |record| table::use_at(record, 0))?;
+    let entries = uses.get_mut(..count).ok_or(Stop::Over)?;
+    read_images(input, entries, 7, |record| table::use_at(record, 0))?;
     let mut buffer = [170; 65535];
     let table = Table {
         tasks,
