@@ -1,6 +1,8 @@
 -- Laws of quotients rounded up.
-use Prim.Native.Nat.{ℕ, zero, suc, ◌+◌, ◌-◌, ◌*◌, ◌/◌, ◌≤◌, ◌<◌}
-use mathlib.Core.Path.{◌≡◌, ap}
+use Prim.Native.Nat.{ℕ, zero, suc, ◌+◌, ◌-◌, ◌*◌, ◌/◌, ◌%◌, min, ◌≤◌, ◌<◌}
+use Rattle.std.proofs.lemmas.Grind.{div_ceil_times}
+use native.Mathlib.Nat.{div-eq_of_lt-le}
+use mathlib.Core.Path.{◌≡◌, ap, sym}
 use native.Mathlib.Nat.{le_trans, le-div_iff_mul-le, div-mul-le_self, div-zero, div-lt_iff_lt-mul, div-eq-sub-div, div-eq_of_lt}
 use native.Mathlib.Nat.{mul-le-mul, mul-le-mul_left, mul-one, one-mul, add-mul}
 use native.Mathlib.Omega.{arith}
@@ -41,3 +43,9 @@ ceil_step a b p q = go (dec_le b a) (div-eq-sub-div {m = b} {n = a + (b - 1)} q 
 -- so a job that has begun counts
 pub ceil_some : (a b : ℕ) → 1 ≤ a → 1 ≤ b → 1 ≤ ceil a b
 ceil_some a b p q = omega (arith, ceil_step a b p q)
+
+-- as the code has it: the quotient, and one more where something is left
+pub ceil_is : (a b : ℕ) → 1 ≤ b → a / b + min 1 (a % b) ≡ ceil a b
+ceil_is a b h =
+    let near = div_ceil_times a b h in
+    sym (div-eq_of_lt-le b (omega (arith, near)) (omega (arith, near, add-mul (a / b + min 1 (a % b)) 1 b, one-mul b)))

@@ -9,7 +9,7 @@ use crate::numbers::ceil_div;
 use crate::{At, Equations};
 
 // The jobs of a task whose sleep is charged, each with its run time and its sleep.
-fn charged(t: u64, run: u64, sleep: u64, period: u64) -> u64
+fn charged(t: u64, run: u64, sleep: u64, period: u32) -> u64
     requires { (t ≤ 1000000) × (run ≤ 1000000) × (sleep ≤ 1000000) × (1 ≤ period) × (period ≤ 1000000) }
     ensures { (result ≡ ceil t period * (run + sleep)) × (result ≤ 2000000000000) }
 {
@@ -17,7 +17,7 @@ fn charged(t: u64, run: u64, sleep: u64, period: u64) -> u64
 }
 
 // The jobs of a task whose jitter is charged, each with its run time.
-fn delayed(t: u64, value: u64, run: u64, period: u64) -> u64
+fn delayed(t: u64, value: u64, run: u64, period: u32) -> u64
     requires { (t ≤ 1000000) × (value ≤ 1000000) × (run ≤ value) × (1 ≤ period) × (period ≤ 1000000) }
     ensures { (result ≡ ceil (t + value - run) period * run) × (result ≤ 2000000000000) }
 {
@@ -34,11 +34,11 @@ impl<'a> Equations<'a> {
     {
         let higher = self.table.task(j);
         let run = u64::from(higher.run);
-        let period = u64::from(higher.period);
-        if self.table.task(at.task).priority <= self.settings[j] {
-            return charged(at.length, run, u64::from(higher.sleep), period);
+        // by the total reader: with `self.table.task(at.task).priority` a right side under 16 higher tasks takes 458 instructions in place of 431
+        if table::byte_at(self.table.bytes, 20 * at.task + 1) <= self.settings[j] {
+            return charged(at.length, run, u64::from(higher.sleep), higher.period);
         }
-        delayed(at.length, vector[j], run, period)
+        delayed(at.length, vector[j], run, higher.period)
     }
 
     // What all higher tasks add.

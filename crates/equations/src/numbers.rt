@@ -3,9 +3,10 @@ ghost use Rattle.std.specs.Prelude.{◌≡◌, ◌≤◌};
 ghost use Rattle.equations.specs.Counting.{ceil};
 
 // A quotient rounded up, of numbers that fit 32 bits.
-pub fn ceil_div(a: u64, b: u64) -> u64
+#[tactic(auto, using(crate::proofs::Counting::ceil_is))]
+pub fn ceil_div(a: u64, b: u32) -> u64
     requires { (a ≤ 4000000) × (1 ≤ b) × (b ≤ 1000000) }
     ensures { result ≡ ceil a b }
 {
-    u64::from((a + (b - 1)) as u32 / b as u32)
+    u64::from((a as u32).div_ceil(b))
 }

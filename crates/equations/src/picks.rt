@@ -61,7 +61,7 @@ impl<'a> Equations<'a> {
     {
         let place = word.place();
         let task = self.table.task(place);
-        word.times() * ceil_div(t + vector[place], u64::from(task.period))
+        word.times() * ceil_div(t + vector[place], task.period)
     }
 
     // Σ(x) and Σ(x + 1) of the bag, from one walk over the kept uses, until x + 1 sections are taken.
