@@ -1,8 +1,8 @@
 -- The open sections by their arrays: how many, whether each is named, and the ceiling of the last.
-use Rattle.std.proofs.Common.{◌≡◌, ℕ, zero, suc, Bool, true, false, ◌&&◌, ltb, leb, List, [], ◌∷◌, ◌++◌, length, get_or, sym, refl, ap, ◌∙◌, arith, length-append}
+use Rattle.std.proofs.Common.{◌≡◌, ℕ, zero, suc, Bool, true, false, ◌&&◌, ltb, leb, List, [], ◌∷◌, ◌++◌, length, get_or, sym, Option, None, Some, refl, ap, ◌∙◌, arith, length-append}
 use mathlib.Core.Bool.{and-true, and_assoc}
 use Rattle.protocol.specs.Tasks.{Table}
-use Rattle.searches.specs.Searches.{all, largest}
+use Rattle.searches.specs.Searches.{all}
 use Rattle.protocol.specs.State.{Entry, Section}
 use Rattle.protocol.specs.Running.{ceiling, top}
 use Rattle.protocol.specs.Fit.{used, named, fit}
@@ -55,16 +55,15 @@ fit_tested t s f =
 
 -- ---- the ceiling
 
--- resource 0 has no user
-no_users : (k : ℕ) → largest (λ i. 0) k ≡ 0
-unfolding largest
-no_users zero = refl
-no_users (suc k) = rw (no_users k)
+-- the ceiling of a resource, 0 of none
+abbrev pub ceiling_or : Table → Option ℕ → ℕ
+ceiling_or T None = 0
+ceiling_or T (Some r) = ceiling T r
 
 -- the ceiling of the last open resource is that of the last section
-pub last_ceiling : (t : Tasks) (places resources : List ℕ) (n : ℕ)
-    → ceiling (tasks_of t) (last_open resources n) ≡ top (tasks_of t) 0 (sections_by places resources n)
-unfolding top sections_by ceiling
-last_ceiling t places resources zero = no_users t.count
-last_ceiling t places resources (suc n) =
-    sym (top_snoc (tasks_of t) 0 (sections_by places resources n) (section (get_or places n 0) (get_or resources n 0)))
+pub last_ceiling : (T : Table) (places resources : List ℕ) (n : ℕ)
+    → ceiling_or T (last_open resources n) ≡ top T 0 (sections_by places resources n)
+unfolding top sections_by
+last_ceiling T places resources zero = refl
+last_ceiling T places resources (suc n) =
+    sym (top_snoc T 0 (sections_by places resources n) (section (get_or places n 0) (get_or resources n 0)))

@@ -1,10 +1,12 @@
 -- What the scans look at, and how the running job is found from it.
-use Rattle.std.proofs.Common.{◌≡◌, ℕ, Bool, not, ◌&&◌, eqb, ltb, ap, ◌∙◌}
+use Rattle.std.proofs.Common.{◌≡◌, ◌≢◌, ℕ, ◌<◌, ◌≤◌, List, length, get_or, take, length-take-le, get_or-take, arith, Option, None, Some, MatchOption, sym, eq-eqb, eqb-true, Bool, not, ◌&&◌, eqb, ltb, ap, ◌∙◌}
 use Rattle.searches.specs.Searches.{first, best, largest, only}
+use Rattle.searches.proofs.Searching.{first_here, first_none}
 use Rattle.searches.proofs.Leading.{best_by_largest}
 use Rattle.protocol.specs.Tasks.{Table, priority, setting}
 use Rattle.protocol.specs.State.{Entry, is_none}
 use Rattle.protocol.specs.Running.{system_priority, in_force, running}
+use Rattle.arrays.specs.Places.{place_of}
 use Rattle.arrays.specs.View.{eligible_under, eligible_priority}
 
 -- ---- what the scans look at
@@ -33,3 +35,28 @@ pub running_found : (T : Table) (f : ℕ → Entry) (system highest : ℕ) → s
 unfolding running
 running_found T f system highest e h =
     rw h (best_by_largest (eligible_under T f system) (priority T) T.size) ∙ ap (λ y. best (eligible_under T f y) (priority T) T.size) e
+
+-- ---- who has a priority
+
+-- The place o is the first one of the number x in a list, if it has one.
+abbrev pub FirstOf : List ℕ → ℕ → Option ℕ → Type 0
+FirstOf l x o =
+    MatchOption o ((k : ℕ) → k < length l → get_or l k 0 ≢ x)
+    (λ i. (i < length l) × (get_or l i 0 ≡ x) × ((k : ℕ) → k < i → get_or l k 0 ≢ x))
+
+-- among the first n it is the first that passes the test
+pub found_first : (l : List ℕ) (x n : ℕ) (o : Option ℕ) → n ≤ length l → FirstOf (take n l) x o → place_of o ≡ first (λ k. eqb (get_or l k 0) x) n
+found_first l x n o le h = go o h
+  where
+    long : length (take n l) ≡ n
+    long = length-take-le n l le
+
+    kept : (k : ℕ) → k < n → get_or (take n l) k 0 ≡ get_or l k 0
+    kept k lt = get_or-take n l k 0 lt
+
+    go : (o : Option ℕ) → FirstOf (take n l) x o → place_of o ≡ first (λ k. eqb (get_or l k 0) x) n
+    go None h = sym (first_none _ n (λ k lt e. h k (omega (arith, long)) (kept k lt ∙ eqb-true _ _ e)))
+    go (Some i) h =
+        let lt : i < n = omega (arith, long, h.0) in
+        sym (first_here _ i n (first_none _ i (λ k less e. h.2 k less (kept k (omega arith) ∙ eqb-true _ _ e)))
+        (eq-eqb _ _ (sym (kept i lt) ∙ h.1)) lt)

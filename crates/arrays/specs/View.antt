@@ -1,5 +1,5 @@
 -- A scheduler's arrays seen as the machine's table, entries and open sections.
-use Rattle.std.specs.Prelude.{ℕ, zero, suc, ◌+◌, ◌*◌, Bool, false, not, ◌&&◌, List, [], ◌∷◌, ◌++◌, ◌==◌, nat_lt, slice_index, slice_index_or}
+use Rattle.std.specs.Prelude.{ℕ, zero, suc, ◌+◌, ◌*◌, Bool, false, not, ◌&&◌, List, [], ◌∷◌, ◌++◌, ◌==◌, nat_lt, slice_index, slice_index_or, Option, None, Some}
 use Rattle.searches.specs.Searches.{only}
 use Rattle.protocol.specs.Tasks.{Table, priority, setting}
 use Rattle.protocol.specs.State.{Status, none, ready, waiting, asleep, Entry, Section, serial, holds, is_ready, is_asleep}
@@ -65,10 +65,10 @@ sections_by places resources (suc n) = sections_by places resources n ++ (sectio
 abbrev pub sections_of : Sections → List Section
 sections_of s = sections_by s.places s.resources s.count
 
--- the resource of the last of n open sections, 0 where there is none
-abbrev pub last_open : List ℕ → ℕ → ℕ
-last_open resources zero = 0
-last_open resources (suc n) = slice_index resources n
+-- the resource of the last of n open sections
+abbrev pub last_open : List ℕ → ℕ → Option ℕ
+last_open resources zero = None
+last_open resources (suc n) = Some (slice_index resources n)
 
 -- the number of the latest job at a place
 abbrev pub number_of : Table → (ℕ → Entry) → ℕ → Number

@@ -17,16 +17,12 @@ pub struct Sections {
 }
 
 impl Sections {
-    // The resource of the last opened section still open, 0 where none is: resource 0 has no user, so that is what the ceiling is asked of.
-    pub fn last_open(&self) -> u8
+    // The resource of the last opened section still open.
+    pub fn last_open(&self) -> Option<u8>
         requires { self.now.count ≤ 16 }
         ensures { result ≡ last_open self.now.resources self.now.count }
     {
-        if self.count == 0 {
-            0
-        } else {
-            self.resources[self.count - 1]
-        }
+        self.resources[..self.count].last().copied()
     }
 
     // The slot of the first open section of a place and a resource.

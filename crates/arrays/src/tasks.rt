@@ -25,12 +25,9 @@ impl Tasks {
         ensures found { place_of result ≡ first (of_priority (tasks_of self.now) priority) self.now.count }
         ensures inside { IfSome result (λ i. i < self.now.count) }
     {
-        for i in 0..self.count {
-            if self.priorities[i] == priority {
-                return Some(i);
-            }
-        }
-        None
+        self.priorities[..self.count]
+            .iter()
+            .position(|p| *p == priority)
     }
 
     // The ceiling of a resource.

@@ -16,7 +16,10 @@ impl Scheduler {
         requires { (self.now.tasks.count ≤ 32) × (self.now.sections.count ≤ 16) }
         ensures { result ≡ system_ceiling (table_of self.now) (state_of self.now) }
     {
-        self.tasks.ceiling(self.sections.last_open())
+        match self.sections.last_open() {
+            Some(resource) => self.tasks.ceiling(resource),
+            None => 0,
+        }
     }
 
     // The status of a job that is released or wakes: ready if its priority is above the system ceiling, else waiting.

@@ -1,19 +1,12 @@
 -- What is left of `arrays::tasks::Tasks::place_of_priority`.
-use Rattle.std.proofs.Common.{sym, refl, eq-eqb, ne_eqb}
-use Rattle.searches.specs.Searches.{first}
-use Rattle.searches.proofs.Searching.{first_here, first_on}
-use Rattle.arrays.specs.View.{tasks_of, of_priority}
+use Rattle.std.proofs.Common.{◌≤◌, length, take, rules}
+use Rattle.std.proofs.iter.runs.Made.{chains}
+use Rattle.arrays.proofs.Turns.{FirstOf, found_first}
 use Rattle.arrays.proofs.tasks.Tasks.place_of_priority.Goals as goal
 
-pub loop-i-init : goal.loop-i-init
-unfolding first
-loop-i-init c = refl
-
-pub returns-then-self-i-clause-found : goal.returns-then-self-i-clause-found
-returns-then-self-i-clause-found c =
-    sym (first_here (of_priority (tasks_of c.args.self.now) c.args.priority) c.loop-i.i c.args.self.now.count c.loop-i.invariant
-    (eq-eqb _ _ c.if-self-i.true) c.loop-i-test.true)
-
-pub loop-i-preserved : goal.loop-i-preserved
-loop-i-preserved c =
-    first_on (of_priority (tasks_of c.args.self.now) c.args.priority) c.loop-i.i c.loop-i.invariant (ne_eqb _ _ c.if-self-i.false)
+pub returns-clause-found : goal.returns-clause-found
+returns-clause-found c =
+    let t = c.args.self.now in
+    let within : t.count ≤ length t.priorities = search rules in
+    let found : FirstOf (take t.count t.priorities) c.args.priority c.position.result = search (rules, chains) in
+    found_first t.priorities c.args.priority t.count c.position.result within found
