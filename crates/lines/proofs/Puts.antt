@@ -1,5 +1,6 @@
 -- The lines of the tasks, one after the other.
 use Rattle.std.proofs.Common.{◌≡◌, ℕ, zero, suc, ◌+◌, ◌*◌, ◌≤◌, ◌<◌, List, [], ◌++◌, length, refl, arith, add-one, length-append, Bool, true, false, Option, Some, None}
+use Rattle.std.proofs.lemmas.Grind.{common_steps}
 use native.Mathlib.Decide.{dec_lt}
 use Rattle.table.specs.declared.Task.{Task}
 use Rattle.table.specs.declared.Refusal.{Refusal}
@@ -8,8 +9,8 @@ use Rattle.analysis.specs.declared.Analysis.{Analysis}
 use Rattle.analysis.specs.declared.TaskAnswer.{TaskAnswer}
 use Rattle.analysis.specs.declared.TaskAnswer.TheVariants.{Bound, Conditional, Nothing}
 use Rattle.analysis.specs.Answering.{answer_at}
-use Rattle.words.specs.Text.{text, labelled, newline}
-use Rattle.words.proofs.Words.{labelled_few, refusal_few}
+use Rattle.words.specs.Text.{newline}
+use Rattle.words.proofs.Words.{decimal_few, refusal_few}
 use Rattle.lines.specs.Lines.{verdict_text, answer_text, task_line, task_lines, refusal_or, lines_of}
 
 -- none
@@ -40,36 +41,24 @@ task_lines_grow s a i (suc k) l = go (dec_lt i k) (task_lines_grow s a i k)
 
 -- what a task is answered
 answer_few : (answer : TaskAnswer) → length (answer_text answer) ≤ 27
-answer_few (Bound value) = labelled_few (text " bound ") value
-answer_few (Conditional value) = omega (arith, labelled_few (text " if ") value)
+answer_few (Bound value) = grind (arith, common_steps, decimal_few value)
+answer_few (Conditional value) = grind (arith, common_steps, decimal_few value)
 answer_few Nothing = omega arith
 
 -- a task's line
 task_line_few : (task : Task) (answer : TaskAnswer) → length (task_line task answer) ≤ 80
-task_line_few task answer =
-    let first = labelled [] task.priority in
-    let third = labelled (text " deadline ") task.deadline in
-    omega (
-      arith,
-      length-append first (answer_text answer ++ (third ++ newline)),
-      length-append (answer_text answer) (third ++ newline),
-      length-append third newline,
-      labelled_few [] task.priority,
-      answer_few answer,
-      labelled_few (text " deadline ") task.deadline,
-    )
+task_line_few task answer = grind (arith, common_steps, decimal_few task.priority, answer_few answer, decimal_few task.deadline)
 
 -- the lines of tasks
 task_lines_few : (s : List ℕ) (a : Analysis) (k : ℕ) → length (task_lines s a k) ≤ 80 * k
 unfolding task_lines
 task_lines_few s a zero = omega arith
-task_lines_few s a (suc k) =
-    omega (arith, length-append (task_lines s a k) (task_line (task_of s k) (answer_at a k)), task_lines_few s a k, task_line_few (task_of s k) (answer_at a k))
+task_lines_few s a (suc k) = grind (arith, common_steps, task_lines_few s a k, task_line_few (task_of s k) (answer_at a k))
 
 -- the verdict
 verdict_few : (verdict : Bool) (evaluations : ℕ) → length (verdict_text verdict evaluations) ≤ 44
-verdict_few true evaluations = labelled_few (text "verdict yes evaluations ") evaluations
-verdict_few false evaluations = omega (arith, labelled_few (text "verdict no evaluations ") evaluations)
+verdict_few true evaluations = grind (arith, common_steps, decimal_few evaluations)
+verdict_few false evaluations = grind (arith, common_steps, decimal_few evaluations)
 
 -- all that is printed of an analysis
 pub lines_few : (s : List ℕ) (a : Analysis) → a.tasks ≤ 32 → length (lines_of s a) ≤ 4096
@@ -77,13 +66,4 @@ lines_few s a l = go a.refusal
   where
     go : (r : Option Refusal) → length (refusal_or r (verdict_text a.verdict a.evaluations ++ (newline ++ task_lines s a a.tasks))) ≤ 4096
     go (Some refusal) = omega (arith, refusal_few refusal)
-    go None =
-        let told = verdict_text a.verdict a.evaluations in
-        let rest = task_lines s a a.tasks in
-        omega (
-          arith,
-          length-append told (newline ++ rest),
-          length-append newline rest,
-          verdict_few a.verdict a.evaluations,
-          task_lines_few s a a.tasks,
-        )
+    go None = grind (arith, common_steps, verdict_few a.verdict a.evaluations, task_lines_few s a a.tasks)

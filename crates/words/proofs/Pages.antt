@@ -1,7 +1,6 @@
 -- Texts put on a page one after the other are their texts put together.
 use Rattle.std.proofs.Common.{◌≡◌, ℕ, ◌+◌, ◌-◌, List, [], ◌++◌, length, drop, append_assoc, arith, length-append, length-drop, ◌≤◌, take, sym, ap, ap₂, ◌∙◌}
 use lib.ListN.{take-append-drop}
-use lib.Seq.{length-take-le, drop-drop}
 use Rattle.words.specs.declared.page.Page.{Page}
 use Rattle.words.specs.Pages.{sheet, Puts}
 use Rattle.words.specs.Writing.{Put}
@@ -29,10 +28,10 @@ unfolding sheet onward
 puts_put p q t h =
     let front : take q.at q.out.now ≡ take p.at p.out.now ++ t = ap (λ (s : Sheet). s.put) h in
     let rest : drop q.at q.out.now ≡ drop (length t) (drop p.at p.out.now) = ap (λ (s : Sheet). s.rest) h in
+    let sized : length (take q.at q.out.now) ≡ length (take p.at p.out.now ++ t) = ap length front in
     record {
-      end = sym (length-take-le q.at q.out.now q.within) ∙ ap length front ∙ length-append (take p.at p.out.now) t ∙ ap (λ (n : ℕ). n + length t) (length-take-le p.at p.out.now p.within);
-      holds = sym (take-append-drop q.at q.out.now) ∙ ap₂ (λ (x y : List ℕ). x ++ y) front (rest ∙ drop-drop (length t) p.at p.out.now)
-          ∙ append_assoc (take p.at p.out.now) t (drop (p.at + length t) p.out.now);
+      end = grind (arith, common_steps, sized, p.within, q.within);
+      holds = sym (take-append-drop q.at q.out.now) ∙ rw (front, rest) (grind (arith, common_steps));
     }
 
 -- the laws of pages

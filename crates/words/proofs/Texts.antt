@@ -5,21 +5,19 @@ use mathlib.Core.List.{List, [], ◌∷◌, ◌++◌}
 use native.Mathlib.Decide.{dec_le}
 use native.Mathlib.Nat.{pow-zero, pow-suc, one-le-pow, pow-le-pow_right}
 use native.Mathlib.Omega.{arith}
-use borrow.Author.Tests.{lt-ltb, le-ltb}
+use Rattle.std.proofs.lemmas.Grind.{common_steps}
+use borrow.Author.Tests.{le-ltb}
 use Rattle.io.specs.Digits.{hex_digit_ascii, last_digits, IsDigitCount}
 use Rattle.words.specs.Text.{digits_in, decimal}
 
 -- a digit below 10 is a figure
 figure : (d : ℕ) → d < 10 → hex_digit_ascii d ≡ 48 + d
-figure d l = rw (lt-ltb d 10 l)
+figure d l = grind (arith, common_steps)
 
 -- the fewest digits, with room for more
 spelled : (k m n : ℕ) → k ≤ m → IsDigitCount 10 1 n (suc k) → last_digits 10 (suc k) n ≡ digits_in (suc m) n
 unfolding digits_in
-spelled zero m n l f =
-    let small : n < 10 = omega (arith, f.1, pow-suc 10 0, pow-zero 10) in
-    let same : n % 10 ≡ n = omega arith in
-    rw (lt-ltb n 10 small, same, figure n small)
+spelled zero m n l f = grind (arith, common_steps, f.1, pow-suc 10 0, pow-zero 10)
 spelled (suc k) zero n l f = absurd (omega arith)
 spelled (suc k) (suc m) n l f =
     let high = pow-suc 10 (suc k) in

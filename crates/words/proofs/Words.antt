@@ -1,22 +1,21 @@
 -- Laws of words and numbers in a text.
 use Prim.Native.Nat.{ℕ, zero, suc, ◌+◌, ◌*◌, ◌/◌, ◌%◌, ◌^◌, ◌≤◌, ◌<◌}
-use mathlib.Core.Path.{◌≡◌, refl, sym, ap, ap₂, ◌∙◌}
-use mathlib.Core.Bool.{Bool, true, false, cond, ◌&&◌}
-use mathlib.Core.List.{List, [], ◌∷◌, ◌++◌, append_assoc, append-nil}
-use native.Mathlib.Decide.{dec_le}
-use native.Mathlib.Nat.{mul-suc, pow-zero, pow-suc}
+use mathlib.Core.Path.{◌≡◌, refl, ap, ◌∙◌}
+use mathlib.Core.Bool.{Bool, true, ◌&&◌}
+use mathlib.Core.List.{List, [], ◌∷◌, ◌++◌}
+use native.Mathlib.Nat.{pow-zero, pow-suc}
 use native.Mathlib.Numerals.{add-one}
 use native.Mathlib.Omega.{arith}
-use borrow.Author.Tests.{lt-ltb, le-ltb, le-leb, eq-eqb, ne_eqb}
 use lib.Dec.{eqb}
-use lib.ListN.{length, take, get_or, length-append}
+use lib.ListN.{length, take, get_or}
+use Rattle.std.proofs.lemmas.Grind.{common_steps}
 use lib.Pointwise.{pointwise}
 use Rattle.std.specs.List.{fold, prefix_len, take_while}
 use Rattle.std.proofs.lemmas.List.Sums.{prefix_len-le-length}
-use lib.Seq.{take_all, length-take-le}
+use lib.Seq.{length-take-le}
 use Rattle.table.specs.declared.Refusal.{Refusal}
 use Rattle.table.specs.Replies.{why_number}
-use Rattle.words.specs.Text.{text, digits_in, decimal, labelled, newline, joined}
+use Rattle.words.specs.Text.{text, digits_in, decimal, labelled, joined}
 use Rattle.words.specs.Refusing.{refusal_line}
 use Rattle.words.specs.Finding.{lead, in_class, digit, same, is_number, with_digit, value_on, value_of, printable, printables, found_text}
 
@@ -26,9 +25,7 @@ use Rattle.words.specs.Finding.{lead, in_class, digit, same, is_number, with_dig
 prefix_lead : (p : ℕ → Bool) (s : List ℕ) → prefix_len p s ≡ lead p s
 unfolding lead
 prefix_lead p [] = refl
-prefix_lead p (b ∷ s) =
-    let one : 1 + prefix_len p s ≡ suc (prefix_len p s) = omega arith in
-    ap (λ (n : ℕ). cond (p b) n 0) (one ∙ ap suc (prefix_lead p s))
+prefix_lead p (b ∷ s) = grind (arith, common_steps, prefix_lead p s)
 
 -- a run is as long as what an iterator takes
 pub lead_taken : (p : ℕ → Bool) (s : List ℕ) → length (take_while p s) ≡ lead p s
@@ -38,12 +35,7 @@ lead_taken p s = length-take-le (prefix_len p s) s (prefix_len-le-length p s) �
 pub lead_all : (p : ℕ → Bool) (t rest : List ℕ) → lead p t ≡ length t → lead p (t ++ rest) ≡ length t + lead p rest
 unfolding lead
 lead_all p [] rest e = omega arith
-lead_all p (b ∷ t) rest e = go (p b) e (lead_all p t rest)
-  where
-    go : (x : Bool) → cond x (suc (lead p t)) 0 ≡ suc (length t) → (lead p t ≡ length t → lead p (t ++ rest) ≡ length t + lead p rest)
-        → cond x (suc (lead p (t ++ rest))) 0 ≡ suc (length t) + lead p rest
-    go true q less = omega (arith, less (omega arith))
-    go false q less = absurd (omega arith)
+lead_all p (b ∷ t) rest e = grind (arith, common_steps, lead_all p t rest)
 
 -- ---- the same texts
 
@@ -59,7 +51,7 @@ same_slices (a ∷ s) (b ∷ t) = ap (λ (x : Bool). eqb a b && x) (same_slices 
 pub same_refl : (t : List ℕ) → same t t ≡ true
 unfolding same
 same_refl [] = refl
-same_refl (b ∷ t) = rw (eq-eqb b b refl) (same_refl t)
+same_refl (b ∷ t) = grind (arith, common_steps, same_refl t)
 
 -- ---- the value of digits
 
@@ -77,7 +69,7 @@ value_append v (b ∷ s) t = value_append (with_digit v b) s t
 
 -- a digit below 10 after a value in range
 digit_value : (v d : ℕ) → v ≤ 1000000 → with_digit v (48 + d) ≡ 10 * v + d
-digit_value v d l = rw (le-ltb 1000000 v l) (omega arith)
+digit_value v d l = grind (arith, common_steps)
 
 -- a number of two digits and more needs room for a second
 room : (k n : ℕ) → 10 ≤ n → n < 10 ^ suc k → 1 ≤ k
@@ -88,14 +80,7 @@ room (suc k) n s h = omega arith
 pub value_digits : (k n : ℕ) → n ≤ 1000000 → n < 10 ^ k → 1 ≤ k → value_of (digits_in k n) ≡ n
 unfolding digits_in value_on
 value_digits zero n l h g = absurd (omega arith)
-value_digits (suc k) n l h g = go (dec_le 10 n) (value_digits k (n / 10))
-  where
-    go : Dec (10 ≤ n) → (n / 10 ≤ 1000000 → n / 10 < 10 ^ k → 1 ≤ k → value_of (digits_in k (n / 10)) ≡ n / 10) → value_of (digits_in (suc k) n) ≡ n
-    go (no s) rest = rw (lt-ltb n 10 (omega arith)) (digit_value 0 n (omega arith) ∙ omega arith)
-    go (yes s) rest =
-        rw (le-ltb n 10 s) (value_append 0 (digits_in k (n / 10)) ((48 + n % 10) ∷ [])
-        ∙ ap (λ (v : ℕ). with_digit v (48 + n % 10)) (rest (omega arith) (omega (arith, pow-suc 10 k)) (room k n s h))
-        ∙ digit_value (n / 10) (n % 10) (omega arith) ∙ omega arith)
+value_digits (suc k) n l h g = grind (arith, common_steps, value_append 0 (digits_in k (n / 10)) ((48 + n % 10) ∷ []), value_digits k (n / 10), pow-suc 10 k, room k n)
 
 -- a number in range is read as it is written
 pub value_decimal : (n : ℕ) → n ≤ 1000000 → value_of (decimal n) ≡ n
@@ -107,26 +92,15 @@ value_decimal n l = value_digits 20 n l (omega arith) (omega arith)
 digits_all : (p : ℕ → Bool) → ((d : ℕ) → d < 10 → p (48 + d) ≡ true) → (k n : ℕ) → lead p (digits_in k n) ≡ length (digits_in k n)
 unfolding digits_in lead
 digits_all p h zero n = refl
-digits_all p h (suc k) n = go (dec_le 10 n) (digits_all p h k (n / 10))
-  where
-    one : (d : ℕ) → d < 10 → lead p ((48 + d) ∷ []) ≡ 1
-    one d l = rw (h d l)
-
-    go : Dec (10 ≤ n) → lead p (digits_in k (n / 10)) ≡ length (digits_in k (n / 10)) → lead p (digits_in (suc k) n) ≡ length (digits_in (suc k) n)
-    go (no s) rest = rw (lt-ltb n 10 (omega arith)) (one n (omega arith))
-    go (yes s) rest =
-        rw (le-ltb n 10 s) (lead_all p (digits_in k (n / 10)) ((48 + n % 10) ∷ []) rest
-        ∙ ap (λ (x : ℕ). length (digits_in k (n / 10)) + x) (one (n % 10) (omega arith))
-        ∙ sym (length-append (digits_in k (n / 10)) ((48 + n % 10) ∷ [])))
+digits_all p h (suc k) n = grind (arith, common_steps, h (n % 10), h n, lead_all p (digits_in k (n / 10)) ((48 + n % 10) ∷ []), digits_all p h k (n / 10))
 
 -- a figure is a digit
 figure_digit : (b : ℕ) → 48 ≤ b → b ≤ 57 → digit b ≡ true
-figure_digit b l h = rw (le-leb 48 b l, le-leb b 57 h)
+figure_digit b l h = grind (arith, common_steps)
 
 -- a figure is a byte of a word
 figure_word : (b : ℕ) → 48 ≤ b → b ≤ 57 → in_class 1 b ≡ true
-figure_word b l h =
-    rw (ne_eqb b 32 (λ e. omega arith), ne_eqb b 9 (λ e. omega arith), ne_eqb b 13 (λ e. omega arith), ne_eqb b 10 (λ e. omega arith), ne_eqb b 35 (λ e. omega arith))
+figure_word b l h = grind (arith, common_steps)
 
 -- a written number is all digits
 pub digits_lead : (n : ℕ) → lead digit (decimal n) ≡ length (decimal n)
@@ -139,11 +113,7 @@ digits_word n = digits_all (in_class 1) (λ d l. figure_word (48 + d) (omega ari
 -- a number with room for a digit has one
 some_digit : (k n : ℕ) → 1 ≤ length (digits_in (suc k) n)
 unfolding digits_in
-some_digit k n = go (dec_le 10 n)
-  where
-    go : Dec (10 ≤ n) → 1 ≤ length (digits_in (suc k) n)
-    go (no s) = rw (lt-ltb n 10 (omega arith)) (omega arith)
-    go (yes s) = rw (le-ltb n 10 s) (omega (arith, length-append (digits_in k (n / 10)) ((48 + n % 10) ∷ [])))
+some_digit k n = grind (arith, common_steps)
 
 -- a written number has a digit
 pub digits_some : (n : ℕ) → 1 ≤ length (decimal n)
@@ -153,11 +123,7 @@ digits_some n = some_digit 19 n
 digits_few : (k n : ℕ) → length (digits_in k n) ≤ k
 unfolding digits_in
 digits_few zero n = omega arith
-digits_few (suc k) n = go (dec_le 10 n) (digits_few k (n / 10))
-  where
-    go : Dec (10 ≤ n) → length (digits_in k (n / 10)) ≤ k → length (digits_in (suc k) n) ≤ suc k
-    go (no s) rest = rw (lt-ltb n 10 (omega arith)) (omega arith)
-    go (yes s) rest = rw (le-ltb n 10 s) (omega (arith, length-append (digits_in k (n / 10)) ((48 + n % 10) ∷ [])))
+digits_few (suc k) n = grind (arith, common_steps, digits_few k (n / 10))
 
 -- a written number has at most 20 digits
 pub decimal_few : (n : ℕ) → length (decimal n) ≤ 20
@@ -165,30 +131,25 @@ decimal_few n = digits_few 20 n
 
 -- a written number is a number
 pub number_decimal : (n : ℕ) → is_number (decimal n) ≡ true
-number_decimal n = ap₂ (λ (x y : Bool). x && y) (le-leb 1 (length (decimal n)) (digits_some n)) (eq-eqb (lead digit (decimal n)) (length (decimal n)) (digits_lead n))
+number_decimal n = grind (arith, common_steps, digits_some n, digits_lead n)
 
 -- ---- texts one after the other
 
 -- the last of the texts stands after the others
 joined_suc : (f : ℕ → List ℕ) (k i : ℕ) → joined f (suc k) i ≡ joined f k i ++ f (i + k)
 unfolding joined
-joined_suc f zero i =
-    let z : i ≡ i + 0 = omega arith in
-    append-nil (f i) ∙ ap f z
-joined_suc f (suc k) i =
-    let z : i + 1 + k ≡ i + suc k = omega arith in
-    ap (λ (x : List ℕ). f i ++ x) (joined_suc f k (i + 1) ∙ ap (λ (j : ℕ). joined f k (i + 1) ++ f j) z) ∙ sym (append_assoc (f i) (joined f k (i + 1)) (f (i + suc k)))
+joined_suc f zero i = grind (arith, common_steps)
+joined_suc f (suc k) i = rw (joined_suc f k (i + 1)) (grind (arith, common_steps))
 
 -- one text more stands after the others
 pub joined_more : (f : ℕ → List ℕ) (k i : ℕ) → joined f (k + 1) i ≡ joined f k i ++ f (i + k)
-joined_more f k i = ap (λ (j : ℕ). joined f j i) (add-one k) ∙ joined_suc f k i
+joined_more f k i = rw add-one (joined_suc f k i)
 
 -- texts that are short are together at most so long
 pub joined_most : (f : ℕ → List ℕ) (b k i : ℕ) → ((j : ℕ) → length (f j) ≤ b) → length (joined f k i) ≤ b * k
 unfolding joined
 joined_most f b zero i h = omega arith
-joined_most f b (suc k) i h =
-    omega (arith, length-append (f i) (joined f k (i + 1)), h i, joined_most f b k (i + 1) h, mul-suc b k)
+joined_most f b (suc k) i h = grind (arith, common_steps, h i, joined_most f b k (i + 1) h)
 
 -- ---- bytes as they may be printed
 
@@ -212,7 +173,7 @@ printables_suc : (w : List ℕ) (i : ℕ) → i < length w → printables (take 
 unfolding printables
 printables_suc [] i h = absurd (omega arith)
 printables_suc (b ∷ w) zero h = refl
-printables_suc (b ∷ w) (suc i) h = ap (λ (x : List ℕ). printable b ∷ x) (printables_suc w i (omega arith))
+printables_suc (b ∷ w) (suc i) h = grind (arith, common_steps, printables_suc w i)
 
 -- one byte more
 pub printables_more : (w : List ℕ) (i : ℕ) → i < length w → printables (take (i + 1) w) ≡ printables (take i w) ++ (printable (get_or w i 0) ∷ [])
@@ -222,35 +183,26 @@ printables_more w i h = rw add-one (printables_suc w i h)
 
 -- the line ended
 pub found_none : (w : List ℕ) → length w ≡ 0 → found_text w ≡ text "the end of the line"
-found_none w e = rw (eq-eqb (length w) 0 e)
+found_none w e = grind (arith, common_steps)
 
 -- a word that is shown whole
 pub found_whole : (w : List ℕ) → (length w ≡ 0 → ⊥) → length w ≤ 24 → found_text w ≡ printables w
-found_whole w e l = rw (ne_eqb (length w) 0 e, le-ltb 24 (length w) l) (append-nil (printables (take 24 w)) ∙ ap printables (take_all 24 w l))
+found_whole w e l = grind (arith, common_steps)
 
 -- a word whose front is shown
 pub found_front : (w : List ℕ) → 24 < length w → found_text w ≡ printables (take 24 w) ++ text "..."
-found_front w l = rw (ne_eqb (length w) 0 (λ e. omega arith), lt-ltb 24 (length w) l)
+found_front w l = grind (arith, common_steps)
 
 -- ---- how long texts are at most
 
 -- a word and a number
 pub labelled_few : (label : List ℕ) (n : ℕ) → length (labelled label n) ≤ length label + 20
-labelled_few label n = omega (arith, length-append label (decimal n), decimal_few n)
+labelled_few label n = grind (arith, common_steps, decimal_few n)
 
 -- what was found
 pub found_few : (w : List ℕ) → length (found_text w) ≤ 27
-found_few w = go (dec_le (length w) 0) (dec_le (length w) 24)
-  where
-    go : Dec (length w ≤ 0) → Dec (length w ≤ 24) → length (found_text w) ≤ 27
-    go (yes e) d = rw (found_none w (omega arith)) (omega arith)
-    go (no s) (yes l) = rw (found_whole w (λ e. s (omega arith)) l, printables_length w) (omega arith)
-    go (no s) (no l) =
-        rw (found_front w (omega arith)) (omega (arith, length-append (printables (take 24 w)) (text "..."), printables_length (take 24 w), length-take-le 24 w (omega arith)))
+found_few w = grind (arith, common_steps, printables_length w, printables_length (take 24 w))
 
 -- the line of a refusal
 pub refusal_few : (f : Refusal) → length (refusal_line f) ≤ 64
-refusal_few f =
-    let first = labelled (text "refused ") (why_number f.why) in
-    let second = labelled (text " at ") f.place in
-    omega (arith, length-append first (second ++ newline), length-append second newline, labelled_few (text "refused ") (why_number f.why), labelled_few (text " at ") f.place)
+refusal_few f = grind (arith, common_steps, decimal_few (why_number f.why), decimal_few f.place)
