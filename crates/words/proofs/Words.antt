@@ -7,7 +7,7 @@ use native.Mathlib.Nat.{pow-zero, pow-suc}
 use native.Mathlib.Numerals.{add-one}
 use native.Mathlib.Omega.{arith}
 use lib.Dec.{eqb}
-use lib.ListN.{length, take, get_or}
+use lib.ListN.{length, take, drop, get_or}
 use Rattle.std.proofs.lemmas.Grind.{common_steps}
 use lib.Pointwise.{pointwise}
 use Rattle.std.specs.List.{fold, prefix_len, take_while}
@@ -30,6 +30,11 @@ prefix_lead p (b ∷ s) = grind (arith, common_steps, prefix_lead p s)
 -- a run is as long as what an iterator takes
 pub lead_taken : (p : ℕ → Bool) (s : List ℕ) → length (take_while p s) ≡ lead p s
 lead_taken p s = length-take-le (prefix_len p s) s (prefix_len-le-length p s) ∙ prefix_lead p s
+
+-- past the text's end there is no run
+pub lead_past : (p : ℕ → Bool) (s : List ℕ) (at : ℕ) → length s ≤ at → at + lead p (drop at s) ≡ at
+unfolding lead
+lead_past p s at l = grind (arith, common_steps)
 
 -- a run that is a whole text goes on in the text after it
 pub lead_all : (p : ℕ → Bool) (t rest : List ℕ) → lead p t ≡ length t → lead p (t ++ rest) ≡ length t + lead p rest

@@ -1,5 +1,5 @@
 // Where words stand in a text, and what numbers they are.
-ghost use Rattle.std.specs.Prelude.{◌≡◌, ◌-◌, ◌≤◌, length, drop, take_while};
+ghost use Rattle.std.specs.Prelude.{◌≡◌, ◌≤◌, length, take_while};
 ghost use Rattle.words.specs.Classes.{class_number};
 ghost use Rattle.words.specs.Finding.{in_class, run_end, same, with_digit, value_of};
 
@@ -12,36 +12,38 @@ pub enum Class {
     Digit,
 }
 
-// Whether a byte is of a class.
-fn is_in(class: Class, byte: u8) -> bool
-    ensures { result ≡ in_class (class_number class) byte }
-{
-    match class {
-        Class::Blank => matches!(byte, b' ' | b'\t' | b'\r'),
-        Class::Word => !matches!(byte, b' ' | b'\t' | b'\r' | b'\n' | b'#'),
-        Class::Line => byte != b'\n',
-        Class::Digit => byte.is_ascii_digit(),
+impl Class {
+    // Whether a byte is of the class.
+    fn has(self, byte: u8) -> bool
+        ensures { result ≡ in_class (class_number self) byte }
+    {
+        match self {
+            Class::Blank => matches!(byte, b' ' | b'\t' | b'\r'),
+            Class::Word => !matches!(byte, b' ' | b'\t' | b'\r' | b'\n' | b'#'),
+            Class::Line => byte != b'\n',
+            Class::Digit => byte.is_ascii_digit(),
+        }
+    }
+
+    // How many bytes of the class a text starts with.
+    fn lead(self, text: &[u8]) -> usize
+        ensures value { result ≡ length (take_while (in_class (class_number self)) text.now) }
+        ensures upper_bound { result ≤ length text.now }
+    {
+        text.iter().take_while(|byte| self.has(**byte)).count()
     }
 }
 
-// How many bytes of a class stand from a place on.
-fn passed(text: &[u8], at: usize, class: Class) -> usize
-    ensures value { result ≡ length (take_while (in_class (class_number class)) (drop at text.now)) }
-    ensures upper_bound { result ≤ length text.now - at }
-{
-    text.iter()
-        .skip(at)
-        .take_while(|byte| is_in(class, **byte))
-        .count()
-}
-
 // The first place, from a place on, whose byte is not of a class, or the end of the text.
-#[tactic(auto, using(crate::proofs::Words::lead_taken))]
+#[tactic(auto, using(std::proofs::lemmas::Grind::common_steps, crate::proofs::Words::lead_taken, crate::proofs::Words::lead_past))]
 pub fn run_end(text: &[u8], at: usize, class: Class) -> usize
     ensures value { result ≡ run_end text.now at (class_number class) }
     ensures upper_bound { at ≤ length text.now → result ≤ length text.now }
 {
-    at + passed(text, at, class)
+    match text.get(at..) {
+        Some(rest) => at + class.lead(rest),
+        None => at,
+    }
 }
 
 // Whether two texts are the same.
