@@ -9,20 +9,19 @@ use lib.ListN.{length}
 use borrow.Author.Tests.{lt-ltb}
 use Rattle.searches.proofs.Testing.{impossible}
 use Rattle.table.specs.declared.Shape.{Shape}
-use Rattle.table.specs.declared.Reading.{Reading}
-use Rattle.table.specs.declared.Reading.TheVariants.{Accepted, Refused}
+use Rattle.table.specs.Reading.{Reading}
+use Rattle.std.specs.Prelude.{Ok, Err}
 use Rattle.table.specs.Reading.{read_table}
 use Rattle.table.proofs.Accepted.{well_formed}
-use Rattle.notation.specs.declared.Fault.{Fault}
-use Rattle.notation.specs.declared.Packing.TheVariants.{Packed, Faulty}
 use Rattle.notation.specs.declared.stepping.Position.{Position}
+use Rattle.notation.specs.Numbered.{Fault, Packed, Faulty}
 use Rattle.notation.specs.Rows.{Row, row_at}
 use Rattle.notation.specs.Packing.{longest, Outcome, faulty, whole, packed, Step, on, over, past, judged, line_step, ended, end_of, step_at, onward, pack_from, start, pack_text}
 
 -- an answer: a fault, or the bytes of an accepted table
 data Answer : Outcome → Type 0 where
   of_fault : (f : Fault) → Answer (faulty f)
-  of_table : (s : List ℕ) (h : Shape) → read_table s ≡ Accepted h → Answer (packed s)
+  of_table : (s : List ℕ) (h : Shape) → read_table s ≡ Ok h → Answer (packed s)
 
 -- a step ends in such an answer, if it ends
 abbrev Answers : Step → Type 0
@@ -35,8 +34,8 @@ unfolding end_of
 end_answer w records = go (read_table (records ++ 3 ∷ [])) refl
   where
     go : (r : Reading) → read_table (records ++ 3 ∷ []) ≡ r → Answer (ended r w (records ++ 3 ∷ []))
-    go (Accepted h) e = of_table (records ++ 3 ∷ []) h e
-    go (Refused r) e = of_fault _
+    go (Ok h) e = of_table (records ++ 3 ∷ []) h e
+    go (Err r) e = of_fault _
 
 -- a line
 line_answers : (s : List ℕ) (w : Position) (records : List ℕ) → Answers (line_step s w records)
@@ -49,8 +48,8 @@ line_answers s w records =
         → Answers (cond a (cond b (on (past s w row.at w.count w.tasks) records) (judged r s w row.at (records ++ row.bytes)))
         (over (faulty (record { line = w.line; cause = row.cause; column = row.column; at = row.at; value = 0; other = 0 }))))
     go true true r row = tt
-    go true false (Accepted h) row = tt
-    go true false (Refused f) row = of_fault _
+    go true false (Ok h) row = tt
+    go true false (Err f) row = of_fault _
     go false b r row = of_fault _
 
 -- a step
@@ -83,10 +82,10 @@ text_answer t = go (ltb longest (length t))
 
 -- what is packed is an accepted table, and the count is that of its bytes
 pub packed_accepted : (t : List ℕ) (n : ℕ) → (pack_text t).packing ≡ Packed n
-    → (h : Shape) × (read_table (pack_text t).bytes ≡ Accepted h) × (n ≡ length (pack_text t).bytes)
+    → (h : Shape) × (read_table (pack_text t).bytes ≡ Ok h) × (n ≡ length (pack_text t).bytes)
 packed_accepted t n e = go (pack_text t) (text_answer t) e
   where
-    go : (o : Outcome) → Answer o → o.packing ≡ Packed n → (h : Shape) × (read_table o.bytes ≡ Accepted h) × (n ≡ length o.bytes)
+    go : (o : Outcome) → Answer o → o.packing ≡ Packed n → (h : Shape) × (read_table o.bytes ≡ Ok h) × (n ≡ length o.bytes)
     go o (of_fault f) e = absurd (impossible cc)
     go o (of_table s h a) e = (h, a, cc)
 

@@ -11,9 +11,8 @@ use lib.Seq.{drop-drop, drop-append_seam, take-append_seam}
 use Rattle.words.specs.Text.{text, decimal, newline}
 use Rattle.words.specs.Finding.{blank, in_class, lead, run_end, word_start, word_of, same}
 use Rattle.words.proofs.Words.{lead_all, same_refl, value_decimal, number_decimal, digits_word, digits_some}
-use Rattle.notation.specs.declared.rows.Cell.{Cell}
 use Rattle.notation.specs.Columns.{name, least, most, width}
-use Rattle.notation.specs.Rows.{no_cell, value_cell, number_at, cell_at}
+use Rattle.notation.specs.Rows.{Cell, no_cell, value_cell, number_at, cell_at}
 use Rattle.notation.specs.Showing.{spacing, cell_text}
 
 -- ---- words in a text

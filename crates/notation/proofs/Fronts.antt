@@ -6,8 +6,8 @@ use native.Mathlib.Decide.{dec_le}
 use native.Mathlib.Omega.{arith}
 use lib.ListN.{length, take}
 use lib.Seq.{take_all, length-take-le}
-use Rattle.table.specs.declared.Reading.{Reading}
-use Rattle.table.specs.declared.Reading.TheVariants.{Accepted, Refused}
+use Rattle.table.specs.Reading.{Reading}
+use Rattle.std.specs.Prelude.{Ok, Err}
 use Rattle.table.specs.Reading.{read_table}
 use Rattle.table.proofs.Accepted.{well_formed}
 use Rattle.table.proofs.Decided.{front_decides}
@@ -22,10 +22,10 @@ unfolding shown
 front_shown s = ap (λ (r : Reading). shown_by r (take 8192 s)) (front_decides s 8192 (omega arith)) ∙ go (read_table s) refl
   where
     go : (r : Reading) → read_table s ≡ r → shown_by r (take 8192 s) ≡ shown_by r s
-    go (Accepted h) e =
+    go (Ok h) e =
         let f = well_formed s h e in
-        ap (shown_by (Accepted h)) (take_all 8192 s (omega (arith, f.whole, f.start, f.tasks_most, f.uses_most)))
-    go (Refused r) e = refl
+        ap (shown_by (Ok h)) (take_all 8192 s (omega (arith, f.whole, f.start, f.tasks_most, f.uses_most)))
+    go (Err r) e = refl
 
 -- and so for pack, since a longer text is a fault whatever is in it
 pub front_packed : (t : List ℕ) → pack_printed (take 262145 t) ≡ pack_printed t

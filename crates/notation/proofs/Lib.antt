@@ -1,4 +1,5 @@
 mod Naming
+pub mod Views
 mod Rowing
 mod Froms
 mod Steps

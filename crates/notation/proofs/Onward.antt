@@ -9,8 +9,8 @@ use lib.ListN.{length, drop, length-append, length-drop}
 use lib.Seq.{drop-drop}
 use borrow.Author.Tests.{le-leb, lt-leb, ne_eqb}
 use Rattle.table.specs.declared.Shape.{Shape}
-use Rattle.table.specs.declared.Reading.{Reading}
-use Rattle.table.specs.declared.Reading.TheVariants.{Accepted}
+use Rattle.table.specs.Reading.{Reading}
+use Rattle.std.specs.Prelude.{Ok}
 use Rattle.table.specs.Reading.{read_table}
 use Rattle.words.specs.Finding.{in_class, lead, word_start, next_line}
 use Rattle.notation.specs.declared.stepping.Position.{Position}
@@ -49,7 +49,7 @@ line_blank t w records c b = rw (c, b)
 
 -- and after a line with a record with one more, where they are accepted with an end
 line_row : (t : List ℕ) (w : Position) (records bytes more : List ℕ) (h : Shape) → (row_at t w.at).cause ≡ 0 → (row_at t w.at).bytes ≡ bytes
-    → 1 ≤ length bytes → records ++ bytes ≡ more → read_table (more ++ 3 ∷ []) ≡ Accepted h
+    → 1 ≤ length bytes → records ++ bytes ≡ more → read_table (more ++ 3 ∷ []) ≡ Ok h
     → line_step t w records ≡ on (past t w (row_at t w.at).at (length more) h.tasks) more
 unfolding line_step
 line_row t w records bytes more h c b some same e = rw (c, b, same, ne_eqb (length bytes) 0 (λ z. omega arith), e)
@@ -62,7 +62,7 @@ Ends t s records rest = (fuel : ℕ) (w : Position) → drop w.at t ≡ rest →
 
 module _ (t s : List ℕ) where
   -- the end of the text
-  pub ends_last : (records : List ℕ) (h : Shape) → records ++ 3 ∷ [] ≡ s → read_table s ≡ Accepted h → Ends t s records []
+  pub ends_last : (records : List ℕ) (h : Shape) → records ++ 3 ∷ [] ≡ s → read_table s ≡ Ok h → Ends t s records []
   unfolding pack_from step_at end_of
   ends_last records h same e zero w d l = absurd (omega arith)
   ends_last records h same e (suc k) w d l =
@@ -87,7 +87,7 @@ module _ (t s : List ℕ) where
   -- a line with a record, after which the records so far are accepted
   pub ends_row : (records bytes more row rest : List ℕ) (h : Shape)
       → ((at : ℕ) → drop at t ≡ row ++ rest → RowAgain t at bytes rest) → 1 ≤ length row → 1 ≤ length bytes
-      → records ++ bytes ≡ more → read_table (more ++ 3 ∷ []) ≡ Accepted h → Ends t s more rest → Ends t s records (row ++ rest)
+      → records ++ bytes ≡ more → read_table (more ++ 3 ∷ []) ≡ Ok h → Ends t s more rest → Ends t s records (row ++ rest)
   ends_row records bytes more row rest h again some full same e =
       ends_step records more (row ++ rest) rest
       (λ w d. let g = again w.at d in (past t w (row_at t w.at).at (length more) h.tasks, line_row t w records bytes more h g.cause g.same full same e, g.next))

@@ -8,18 +8,19 @@ use lib.ListN.{get_or, length, length-append, get_or-append}
 use Rattle.table.specs.declared.Shape.{Shape}
 use Rattle.table.specs.declared.Task.{Task}
 use Rattle.table.specs.declared.Use.{Use}
-use Rattle.table.specs.declared.Reading.TheVariants.{Accepted}
+use Rattle.std.specs.Prelude.{Result, Ok}
+use Rattle.table.specs.declared.Refusal.{Refusal}
 use Rattle.table.specs.declared.walk.Walk.{Walk}
-use Rattle.table.specs.declared.walk.Turn.{Turn}
-use Rattle.table.specs.declared.walk.Turn.TheVariants.{Next}
+use Rattle.table.specs.declared.walk.Step.{Step}
+use Rattle.table.specs.declared.walk.Step.TheVariants.{On}
 use Rattle.table.specs.Fields.{word_at, task_at, use_at}
-use Rattle.table.specs.Rules.{task_rule, use_rule, place_from, with_task, with_use}
-use Rattle.table.specs.Reading.{start_walk, ruled, step_at, user_at, onward, read_from, read_table}
+use Rattle.table.specs.Rules.{Ruling, stands, task_rule, use_rule, place_from, with_task, with_use}
+use Rattle.table.specs.Reading.{start_walk, ruled, going, step_at, user_at, onward, read_from, read_table}
 use Rattle.table.specs.WellFormed.{task_of, use_of, user_of}
 use Rattle.table.proofs.Laws.{place_within}
 use Rattle.table.proofs.Accepted.{Seen, seen_start, seen_task, seen_use, user_found}
 use Rattle.table.proofs.Agreeing.{word_same, task_same, use_same, place_same}
-use Rattle.notation.proofs.Ruled.{task_first, use_owned}
+use Rattle.table.proofs.Told.{task_stands, use_stands}
 use Rattle.table.proofs.Walked.{task_turn, use_turn_lem, accepted}
 
 -- ---- what the walk remembers
@@ -44,9 +45,9 @@ module _ (s : List ℕ) where
   }
 
   -- past a task
-  marks_task : (w : Walk) → Seen s w → Marks s w → task_rule w (task_at s w.at) ≡ 0 → Marks s (with_task w (task_at s w.at))
+  marks_task : (w : Walk) → Seen s w → Marks s w → task_rule w (task_at s w.at) ≡ stands → Marks s (with_task w (task_at s w.at))
   marks_task w g m e =
-      let first = task_first w (task_at s w.at) e in
+      let first = (task_stands w (task_at s w.at) e).first in
       let here : 20 * (w.tasks + 1 - 1) ≡ w.at = omega (arith, g.place) in
       record {
         none = λ h. absurd (omega arith);
@@ -57,10 +58,10 @@ module _ (s : List ℕ) where
       }
 
   -- past a use
-  marks_use : (w : Walk) → Seen s w → Marks s w → use_rule w (use_at s w.at) (user_at s w) (word_at s (20 * user_at s w + 4)) ≡ 0
+  marks_use : (w : Walk) → Seen s w → Marks s w → use_rule w (use_at s w.at) (user_at s w) (word_at s (20 * user_at s w + 4)) ≡ stands
       → Marks s (with_use w (use_at s w.at) (user_at s w))
   marks_use w g m e =
-      let owned = use_owned w (use_at s w.at) (user_at s w) (word_at s (20 * user_at s w + 4)) e in
+      let owned = (use_stands w (use_at s w.at) (user_at s w) (word_at s (20 * user_at s w + 4)) e).owned in
       let here : 20 * w.tasks + 8 * (w.uses + 1 - 1) ≡ w.at = omega (arith, g.place) in
       record {
         none = m.none;
@@ -79,13 +80,13 @@ pub record Going (s : List ℕ) (w : Walk) : Type 0 where
   pub same : read_from fuel s w ≡ read_table s
 
 -- a step further
-pub going_on : (s : List ℕ) (w n : Walk) → w.at < length s → w.at < n.at → step_at s w ≡ Next n → Going s w → Going s n
+pub going_on : (s : List ℕ) (w n : Walk) → w.at < length s → w.at < n.at → step_at s w ≡ Ok (On n) → Going s w → Going s n
 unfolding read_from
 going_on s w n l on st g = go g.fuel g.enough g.same
   where
     go : (k : ℕ) → length s < w.at + k → read_from k s w ≡ read_table s → Going s n
     go zero h e = absurd (omega arith)
-    go (suc k) h e = record { fuel = k; enough = omega arith; same = ap (λ (t : Turn). onward t (read_from k s)) (sym st) ∙ e }
+    go (suc k) h e = record { fuel = k; enough = omega arith; same = ap (λ (t : Result Step Refusal). onward t (read_from k s)) (sym st) ∙ e }
 
 module _ (s : List ℕ) (w : Walk) where
   -- the last use's task is one of the tasks
@@ -157,7 +158,7 @@ module _ (records more : List ℕ) where
 
   -- past a task
   within_task : (w : Walk) → Within w → get_or (records ++ 3 ∷ []) w.at 0 ≡ 1 → w.at + 20 ≤ length (records ++ 3 ∷ [])
-      → task_rule w (task_at (records ++ 3 ∷ []) w.at) ≡ 0 → Within (with_task w (task_at (records ++ 3 ∷ []) w.at))
+      → task_rule w (task_at (records ++ 3 ∷ []) w.at) ≡ stands → Within (with_task w (task_at (records ++ 3 ∷ []) w.at))
   within_task w p k room e l =
       let s = records ++ 3 ∷ [] in
       let all = records ++ more in
@@ -167,10 +168,10 @@ module _ (records more : List ℕ) where
       let b = length-append all (3 ∷ []) in
       let ta : task_at all w.at ≡ task_at s w.at = task_same s all (length records) front_all w.at l in
       let tw : task_at whole w.at ≡ task_at s w.at = task_same s whole (length records) front_whole w.at l in
-      let rule : task_rule w (task_at all w.at) ≡ 0 = ap (task_rule w) ta ∙ e in
-      let step : step_at whole w ≡ Next (with_task w (task_at s w.at)) =
+      let rule : task_rule w (task_at all w.at) ≡ stands = ap (task_rule w) ta ∙ e in
+      let step : step_at whole w ≡ Ok (On (with_task w (task_at s w.at))) =
       task_turn whole w (front_whole w.at (omega arith) ∙ k) (omega arith)
-      ∙ ap (λ (t : Task). ruled (task_rule w t) w.at (with_task w t)) tw ∙ rw e in (
+      ∙ ap (λ (t : Task). going (ruled (task_rule w t) w.at (with_task w t))) tw ∙ rw e in (
         subst (λ (t : Task). Seen all (with_task w t)) ta (seen_task all w q.0 (front_all w.at (omega arith) ∙ k) (omega arith) rule),
         subst (λ (t : Task). Marks all (with_task w t)) ta (marks_task all w q.0 q.1 rule),
         going_on whole w _ (omega arith) (omega arith) step q.2,
@@ -178,7 +179,7 @@ module _ (records more : List ℕ) where
 
   -- past a use
   within_use : (w : Walk) → Within w → get_or (records ++ 3 ∷ []) w.at 0 ≡ 2 → w.at + 8 ≤ length (records ++ 3 ∷ [])
-      → use_rule w (use_at (records ++ 3 ∷ []) w.at) (user_at (records ++ 3 ∷ []) w) (word_at (records ++ 3 ∷ []) (20 * user_at (records ++ 3 ∷ []) w + 4)) ≡ 0
+      → use_rule w (use_at (records ++ 3 ∷ []) w.at) (user_at (records ++ 3 ∷ []) w) (word_at (records ++ 3 ∷ []) (20 * user_at (records ++ 3 ∷ []) w + 4)) ≡ stands
       → Within (with_use w (use_at (records ++ 3 ∷ []) w.at) (user_at (records ++ 3 ∷ []) w))
   within_use w p k room e l =
       let s = records ++ 3 ∷ [] in
@@ -191,18 +192,18 @@ module _ (records more : List ℕ) where
       let before : 20 * w.tasks ≤ w.at = omega (arith, q.0.place) in
       let rule = use_rule_same s all (length records) front_all w l before few ∙ e in
       let past = past_use_same s all (length records) front_all w l before few in
-      let step : step_at whole w ≡ Next (with_use w (use_at s w.at) (user_at s w)) =
+      let step : step_at whole w ≡ Ok (On (with_use w (use_at s w.at) (user_at s w))) =
       use_turn_lem whole w (front_whole w.at (omega arith) ∙ k) (omega arith)
-      ∙ ap (λ (n : ℕ). ruled n w.at (with_use w (use_at whole w.at) (user_at whole w)))
+      ∙ ap (λ (k : Ruling). going (ruled k w.at (with_use w (use_at whole w.at) (user_at whole w))))
       (use_rule_same s whole (length records) front_whole w l before few ∙ e)
-      ∙ ap Next (past_use_same s whole (length records) front_whole w l before few) in (
+      ∙ ap (λ (n : Walk). Ok (On n)) (past_use_same s whole (length records) front_whole w l before few) in (
         subst (Seen all) past (seen_use all w q.0 (front_all w.at (omega arith) ∙ k) (omega arith) rule),
         subst (Marks all) past (marks_use all w q.0 q.1 rule),
         going_on whole w _ (omega arith) (omega arith) step q.2,
       )
 
   -- records that are accepted with an end
-  pub reached : (h : Shape) → read_table (records ++ 3 ∷ []) ≡ Accepted h → Reached records more h.tasks
+  pub reached : (h : Shape) → read_table (records ++ 3 ∷ []) ≡ Ok h → Reached records more h.tasks
   reached h e =
       let r = accepted (records ++ 3 ∷ []) Within within_task within_use
       (λ l. (

@@ -1,36 +1,34 @@
 -- Laws of a line that is taken off a text, and of the bytes that are put for it.
 use Prim.Native.Nat.{ℕ, suc, ◌+◌, ◌*◌, ◌-◌, ◌%◌, ◌≤◌, ◌<◌}
-use mathlib.Core.Path.{◌≡◌, refl, sym, ap, ap₂, ◌∙◌}
-use mathlib.Core.Bool.{true, false, cond}
+use mathlib.Core.Path.{◌≡◌, refl, sym, ap, ap₂, subst, ◌∙◌}
+use mathlib.Core.Bool.{Bool, true, false, cond}
 use mathlib.Core.List.{List, [], ◌∷◌, ◌++◌, append_assoc, append-nil}
 use native.Mathlib.Omega.{arith}
 use borrow.Author.Tests.{lt-ltb, le-ltb, eq-eqb, ne_eqb}
 use lib.Dec.{eqb}
-use lib.ListN.{length, take, drop, set, length-drop}
+use lib.ListN.{length, take, drop, set, length-append, length-drop}
 use lib.Seq.{sets, sets-eq, length-take-le}
+use Rattle.std.proofs.Common.{Result, Ok, Err, Option, Some, None, ◌≢◌}
+use Rattle.searches.proofs.Testing.{impossible}
 use Rattle.held.specs.Writing.{word_bytes}
 use Rattle.words.specs.Finding.{lead, in_class, run_end, word_start, word_of, same, is_number, value_of}
 use Rattle.words.specs.Writing.{Put}
 use Rattle.words.proofs.Puts.{put_none, put_then}
-use Rattle.notation.specs.declared.rows.Cell.{Cell}
+use Rattle.notation.specs.declared.causes.Cause.{Cause}
+use Rattle.notation.specs.declared.causes.Cause.TheVariants.{FirstWord, MoreWords}
+use Rattle.notation.specs.declared.columns.Column.{Column}
+use Rattle.notation.specs.declared.kinds.Kind.{Kind}
+use Rattle.notation.specs.declared.kinds.Kind.TheVariants.{Task, Use}
+use Rattle.notation.specs.declared.rows.Cell.{Cell as Value}
+use Rattle.notation.specs.declared.rows.Misfit.{Misfit}
 use Rattle.notation.specs.declared.rows.Taken.{Taken}
-use Rattle.notation.specs.Columns.{name, least, most, wide, value_bytes}
-use Rattle.notation.specs.Rows.{no_cell, value_cell, number_at, cell_at, Row, no_row, after, row_end, with_cell, cells_from, row_by, row_at}
-use Rattle.notation.specs.Taking.{Within, taken_by, TakenPut}
+use Rattle.notation.specs.Causes.{cause_number}
+use Rattle.notation.specs.Columns.{column_number, column_or_none, name, least, most, wide, value_bytes}
+use Rattle.notation.specs.Kinds.{kind_number, kind_named, first_column, column_count}
+use Rattle.notation.specs.Rows.{Cell, no_cell, value_cell, number_at, cell_at, Row, no_row, after, row_end, with_cell, cells_from, row_by, row_at}
+use Rattle.notation.specs.Taking.{Found, CellRead, RowRead, TakenPut}
 
 -- ---- a word of a text
-
--- a word of a text that was looked for from a place on: it stands from b to e, and is empty where the line or the text ends
-pub record Found (s : List ℕ) (at b e : ℕ) : Type 0 where
-  pub start : b ≡ word_start s at
-  pub end : e ≡ run_end s b 1
-  pub first : b ≤ length s
-  pub last : e ≤ length s
-
--- two runs find it: the blanks, and the bytes of a word
-pub found_word : (s : List ℕ) (at b e : ℕ) → at ≤ length s → (b ≡ word_start s at) × (at ≤ length s → b ≤ length s)
-    → (e ≡ run_end s b 1) × (b ≤ length s → e ≤ length s) → Found s at b e
-found_word s at b e l f g = record { start = f.0; end = g.0; first = f.1 l; last = g.1 (f.1 l) }
 
 module _ {s : List ℕ} {at b e : ℕ} (f : Found s at b e) where
   -- the part of the text between its ends is the word
@@ -53,9 +51,15 @@ module _ {s : List ℕ} {at b e : ℕ} (f : Found s at b e) where
 
 -- ---- a cell
 
--- a cell without a value lies within the text where its word does
-pub none_within : {r : Cell} {cause b : ℕ} {s : List ℕ} → r ≡ no_cell cause b → b ≤ length s → Within r s
-none_within e l = record { at = omega (arith, ap (λ (x : Cell). x.at) e); end = omega (arith, ap (λ (x : Cell). x.end) e) }
+-- a cell without a value is what is wrong with its word
+pub cell_misfit : {s : List ℕ} {cell : Cell} {m : Misfit} (cause : Cause) (column : Column) (b : ℕ) → no_cell (cause_number cause) b ≡ cell
+    → m ≡ record { cause = cause; column = Some column; at = b } → b ≤ length s → CellRead s (column_number column) cell (Err m)
+cell_misfit cause column b e is l = record {
+  cause = ap (λ (x : Cell). x.cause) (sym e) ∙ ap (λ (x : Misfit). cause_number x.cause) (sym is);
+  named = ap (λ (x : Misfit). column_or_none x.column) (sym is);
+  at = ap (λ (x : Cell). x.at) (sym e) ∙ ap (λ (x : Misfit). x.at) (sym is);
+  within = omega (arith, ap (λ (x : Misfit). x.at) is);
+}
 
 module _ {s : List ℕ} {at b e : ℕ} (f : Found s at b e) (c : ℕ) where
   -- the value of a column is what the word at its place says
@@ -81,8 +85,11 @@ module _ {s : List ℕ} {at b e : ℕ} (f : Found s at b e) (c : ℕ) where
 
   -- one within it
   pub number_is : (v : ℕ) → is_number (take (e - b) (drop b s)) ≡ true → v ≡ value_of (take (e - b) (drop b s)) → least c ≤ v → v ≤ most c
-      → ◌≡◌ {A = Cell} (record { cause = 0; at = b; end = e; value = v }) (number_at s at c)
-  number_is v n h l m = sym (simp (n, ← h, le-ltb v (least c) l, le-ltb (most c) v m)) ∙ number_of
+      → CellRead s c (number_at s at c) (Ok (record { end = e; value = v }))
+  number_is v n h l m =
+      let is : number_at s at c ≡ record { cause = 0; at = b; end = e; value = v } =
+      sym number_of ∙ simp (n, ← h, le-ltb v (least c) l, le-ltb (most c) v m) in
+      record { cause = ap (λ (x : Cell). x.cause) is; end = ap (λ (x : Cell). x.end) is; value = ap (λ (x : Cell). x.value) is; within = f.last }
 
   -- the name of a column, and its value behind it
   cell_of : cond (same (take (e - b) (drop b s)) (name c)) (number_at s e c) (no_cell 2 b) ≡ cell_at s at c
@@ -118,21 +125,24 @@ put_narrow o at c v l w = rw w (put_sets o (v % 256 ∷ []) at l)
 
 -- ---- the end of a line
 
-module _ {s : List ℕ} {at b e : ℕ} (f : Found s at b e) (count : ℕ) where
-  -- what is taken at the end of a line, by the word there
-  end_of : ◌≡◌ {A = Taken} (record { cause = cond (eqb (length (take (e - b) (drop b s))) 0) 0 6; column = 11; at = b; count = count })
-      (taken_by (row_end s (word_start s at)) count)
+module _ {s : List ℕ} {at b e : ℕ} (f : Found s at b e) (n : ℕ) where
+  -- what the end of a line reads as, by the word there
+  end_of : no_row (cond (eqb (length (take (e - b) (drop b s))) 0) 0 6) 11 b ≡ row_end s (word_start s at)
   end_of =
-      ap (λ (w : List ℕ). taken_by (no_row (cond (eqb (length w) 0) 0 6) 11 b) count) (part_word f)
-      ∙ ap (λ (n : ℕ). taken_by (row_end s n) count) f.start
+      ap (λ (w : List ℕ). no_row (cond (eqb (length w) 0) 0 6) 11 b) (part_word f) ∙ ap (λ (k : ℕ). row_end s k) f.start
 
   -- no word is there
-  pub end_none : b ≡ e → ◌≡◌ {A = Taken} (record { cause = 0; column = 11; at = b; count = count }) (taken_by (row_end s (word_start s at)) count)
-  end_none h = sym (rw (word_none f h)) ∙ end_of
+  pub end_none : e ≤ b → RowRead s (row_end s (word_start s at)) n (Ok (record { at = b; count = n }))
+  end_none h =
+      let is : row_end s (word_start s at) ≡ no_row 0 11 b = sym end_of ∙ simp (word_none f (omega (arith, f.end))) in
+      subst (λ (r : Row). RowRead s r n (Ok (record { at = b; count = n }))) (sym is) (record { cause = refl; at = refl; count = omega arith; within = f.first })
 
   -- a word too many
-  pub end_word : (b ≡ e → ⊥) → ◌≡◌ {A = Taken} (record { cause = 6; column = 11; at = b; count = count }) (taken_by (row_end s (word_start s at)) count)
-  end_word h = sym (rw (word_some f h)) ∙ end_of
+  pub end_word : b < e → RowRead s (row_end s (word_start s at)) n (Err (record { cause = MoreWords; column = None; at = b }))
+  end_word h =
+      let is : row_end s (word_start s at) ≡ no_row 6 11 b = sym end_of ∙ simp (word_some f (omega arith)) in
+      subst (λ (r : Row). RowRead s r n (Err (record { cause = MoreWords; column = None; at = b }))) (sym is)
+      (record { cause = refl; named = refl; at = refl; within = f.first })
 
 -- ---- a line's cells, one after the other
 
@@ -140,125 +150,164 @@ module _ {s : List ℕ} {at b e : ℕ} (f : Found s at b e) (count : ℕ) where
 after_after : (p q : List ℕ) (row : Row) → after p (after q row) ≡ after (p ++ q) row
 after_after p q row = ap (λ (x : List ℕ). record { cause = row.cause; column = row.column; at = row.at; bytes = x }) (sym (append_assoc p q row.bytes))
 
--- the cells from a column on are its cell and the cells after it
-cells_step : (last c : ℕ) (s : List ℕ) (place : ℕ) → c < last
-    → cells_from (last - c) s place c ≡ with_cell c (cell_at s place c) (cells_from (last - (c + 1)) s (cell_at s place c).end (c + 1))
+-- the cells after i of k columns are the next one's and those after it
+cells_step : (k i c : ℕ) (s : List ℕ) (place : ℕ) → i < k
+    → cells_from (k - i) s place c ≡ with_cell c (cell_at s place c) (cells_from (k - (i + 1)) s (cell_at s place c).end (c + 1))
 unfolding cells_from
-cells_step last c s place h =
-    let z : last - c ≡ suc (last - (c + 1)) = omega arith in
-    ap (λ (k : ℕ). cells_from k s place c) z
+cells_step k i c s place h =
+    let z : k - i ≡ suc (k - (i + 1)) = omega arith in
+    ap (λ (j : ℕ). cells_from j s place c) z
 
--- what is so after some cells are put: the bytes that were put, and what the rest of the line adds to them
-pub record Filled (s : List ℕ) (at first last : ℕ) (before : List ℕ) (count : ℕ) (now : List ℕ) (column place end : ℕ) : Type 0 where
+-- what is so after i of k cells are put: the bytes that were put, and what the rest of the line adds to them
+pub record Filled (s : List ℕ) (at first k : ℕ) (before : List ℕ) (n : ℕ) (now : List ℕ) (i place end : ℕ) : Type 0 where
   pub bytes : List ℕ
-  pub put : Put before count bytes now end
-  pub rest : cells_from (last - first) s at first ≡ after bytes (cells_from (last - column) s place column)
+  pub put : Put before n bytes now end
+  pub rest : cells_from k s at first ≡ after bytes (cells_from (k - i) s place (first + i))
   pub within : place ≤ length s
-  pub low : first ≤ column
-  pub high : column ≤ last
-  pub most : end ≤ count + 4 * (column - first)
-  pub sized : length now ≡ length before
+  pub few : i ≤ k
+  pub most : end ≤ n + 4 * i
 
 -- before the first cell
-pub filled_none : (s : List ℕ) (at first last : ℕ) (o : List ℕ) (count : ℕ) → at ≤ length s → first ≤ last
-    → Filled s at first last o count o first at count
-filled_none s at first last o count l h = record {
+pub filled_none : (s : List ℕ) (at first k : ℕ) (o : List ℕ) (n : ℕ) → at ≤ length s → Filled s at first k o n o 0 at n
+filled_none s at first k o n l = record {
   bytes = [];
-  put = put_none o count;
-  rest = refl;
+  put = put_none o n;
+  rest = (let y : k ≡ k - 0 = omega arith in let z : first ≡ first + 0 = omega arith in ap₂ (λ (j c : ℕ). cells_from j s at c) y z);
   within = l;
-  low = omega arith;
-  high = h;
+  few = omega arith;
   most = omega arith;
-  sized = refl;
 }
 
-module _ {s : List ℕ} {at first last : ℕ} {before : List ℕ} {count : ℕ} {now : List ℕ} {column place end : ℕ}
-    (f : Filled s at first last before count now column place end) (room : count + 4 * (last - first) ≤ length before) where
+module _ {s : List ℕ} {at first k : ℕ} {before : List ℕ} {n : ℕ} {now : List ℕ} {i place end : ℕ}
+    (f : Filled s at first k before n now i place end) (room : n + 4 * k ≤ length before) where
   -- a cell more
-  pub filled_more : (cell : Cell) (next : List ℕ) (r : ℕ) → column < last → cell ≡ cell_at s place column → cell.cause ≡ 0 → Within cell s
-      → Put now end (value_bytes column cell.value) next r → r ≤ end + 4 → length next ≡ length now
-      → Filled s at first last before count next (column + 1) cell.end r
-  filled_more cell next r h e z w p l n = record {
-    bytes = f.bytes ++ value_bytes column cell.value;
-    put = put_then before count f.bytes (value_bytes column cell.value) now next end r (omega (arith, f.put.end, f.most, f.low, f.high)) f.put p;
-    rest = f.rest
-        ∙ ap (after f.bytes)
-        (cells_step last column s place h
-        ∙ ap (λ (x : Cell). with_cell column x (cells_from (last - (column + 1)) s x.end (column + 1))) (sym e)
-        ∙ rw (eq-eqb cell.cause 0 z))
-        ∙ after_after f.bytes (value_bytes column cell.value) (cells_from (last - (column + 1)) s cell.end (column + 1));
-    within = w.end;
-    low = omega (arith, f.low);
-    high = omega arith;
-    most = omega (arith, f.most, f.low);
-    sized = n ∙ f.sized;
-  }
+  pub filled_more : (c : ℕ) → c ≡ first + i → (v : Value) (next : List ℕ) (r : ℕ) → i < k → CellRead s c (cell_at s place c) (Ok v)
+      → Put now end (value_bytes c v.value) next r → r ≤ end + 4
+      → Filled s at first k before n next (i + 1) v.end r
+  filled_more c here v next r h read p l =
+      let cell = cell_at s place c in
+      let bytes = value_bytes c v.value in
+      let on : c + 1 ≡ first + (i + 1) = omega arith in
+      let one : with_cell c cell (cells_from (k - (i + 1)) s cell.end (c + 1)) ≡ after bytes (cells_from (k - (i + 1)) s v.end (first + (i + 1))) =
+      rw (eq-eqb cell.cause 0 read.cause, read.value, read.end, on) refl in
+      record {
+        bytes = f.bytes ++ bytes;
+        put = put_then before n f.bytes bytes now next end r (omega (arith, f.put.end, f.most, f.few)) f.put p;
+        rest = f.rest ∙ ap (λ (x : ℕ). after f.bytes (cells_from (k - i) s place x)) (sym here)
+            ∙ ap (after f.bytes) (cells_step k i c s place h ∙ one)
+            ∙ after_after f.bytes bytes (cells_from (k - (i + 1)) s v.end (first + (i + 1)));
+        within = read.within;
+        few = omega arith;
+        most = omega (arith, f.most);
+      }
+
+  -- what is so of a line whose rest has no bytes: the bytes that were put are all
+  all_put : (row : Row) → row.bytes ≡ [] → cells_from k s at first ≡ after f.bytes row
+      → Put before n (cells_from k s at first).bytes now (n + length (cells_from k s at first).bytes)
+  all_put row none is =
+      let all : (cells_from k s at first).bytes ≡ f.bytes =
+      ap (λ (x : Row). x.bytes) is ∙ ap (λ (x : List ℕ). f.bytes ++ x) none ∙ append-nil f.bytes in
+      subst (λ (x : List ℕ). Put before n x now (n + length x)) (sym all) (subst (Put before n f.bytes now) f.put.end f.put)
 
   -- a cell at fault: the line ends there
-  pub filled_fault : (cell : Cell) → column < last → cell ≡ cell_at s place column → (cell.cause ≡ 0 → ⊥) → Within cell s
-      → TakenPut s (cells_from (last - first) s at first) before count now (record { cause = cell.cause; column = column; at = cell.at; count = end })
-  filled_fault cell h e z w =
-      let faulty : cells_from (last - first) s at first ≡ after f.bytes (no_row cell.cause column cell.at) =
-      f.rest
-      ∙ ap (after f.bytes)
-      (cells_step last column s place h
-      ∙ ap (λ (x : Cell). with_cell column x (cells_from (last - (column + 1)) s x.end (column + 1))) (sym e)
-      ∙ rw (ne_eqb cell.cause 0 z)) in
-      rw faulty (record { same = refl; put = rw (append-nil f.bytes) f.put; within = w.at })
+  pub filled_fault : (c : ℕ) → c ≡ first + i → (m : Misfit) → i < k → (cell_at s place c).cause ≢ 0 → CellRead s c (cell_at s place c) (Err m)
+      → TakenPut s (cells_from k s at first) before n now (Err m)
+  filled_fault c here m h z read =
+      let cell = cell_at s place c in
+      let faulty : cells_from k s at first ≡ after f.bytes (no_row cell.cause c cell.at) =
+      f.rest ∙ ap (λ (x : ℕ). after f.bytes (cells_from (k - i) s place x)) (sym here)
+      ∙ ap (after f.bytes) (cells_step k i c s place h ∙ rw (ne_eqb cell.cause 0 z) refl) in
+      record { read = rw faulty read; put = all_put (no_row cell.cause c cell.at) refl faulty }
 
   -- no cell is left: the line's end
-  pub filled_end : (r : Taken) → last ≤ column → r ≡ taken_by (row_end s (word_start s place)) end → r.at ≤ length s
-      → TakenPut s (cells_from (last - first) s at first) before count now r
+  pub filled_end : (r : Result Taken Misfit) → k ≤ i → RowRead s (row_end s (word_start s place)) end r
+      → TakenPut s (cells_from k s at first) before n now r
   unfolding cells_from
-  filled_end r h e w =
-      let z : last - column ≡ 0 = omega arith in
-      let ended : cells_from (last - first) s at first ≡ after f.bytes (row_end s (word_start s place)) =
-      f.rest ∙ ap (λ (k : ℕ). after f.bytes (cells_from k s place column)) z in
-      let here : r.count ≡ end = ap (λ (x : Taken). x.count) e in
-      rw ended (record {
-        same = e ∙ ap (taken_by (row_end s (word_start s place))) (sym here);
-        put = rw (append-nil f.bytes, here) f.put;
-        within = w;
-      })
+  filled_end r h read =
+      let last = row_end s (word_start s place) in
+      let z : k - i ≡ 0 = omega arith in
+      let ended : cells_from k s at first ≡ after f.bytes last =
+      f.rest ∙ ap (λ (j : ℕ). after f.bytes (cells_from j s place (first + i))) z in
+      record { read = rw ended (go r read); put = all_put last refl ended }
+    where
+      go : (q : Result Taken Misfit) → RowRead s (row_end s (word_start s place)) end q → RowRead s (after f.bytes (row_end s (word_start s place))) n q
+      go (Ok taken) w = record {
+        cause = w.cause;
+        at = w.at;
+        count = omega (arith, w.count, f.put.end, length-append f.bytes []);
+        within = w.within;
+      }
+      go (Err m) w = record { cause = w.cause; named = w.named; at = w.at; within = w.within }
 
 -- ---- a whole line
 
 -- a line without a record leaves the bytes as they are
-none_put : (s : List ℕ) (row : Row) (o : List ℕ) (count cause b : ℕ) → row ≡ no_row cause 11 b → b ≤ length s
-    → TakenPut s row o count o (record { cause = cause; column = 11; at = b; count = count })
-none_put s row o count cause b e l = rw e (record { same = refl; put = put_none o count; within = l })
+none_put : (s : List ℕ) (row : Row) (o : List ℕ) (n cause b : ℕ) (r : Result Taken Misfit) → row ≡ no_row cause 11 b → RowRead s (no_row cause 11 b) n r
+    → TakenPut s row o n o r
+none_put s row o n cause b r e read =
+    let here : n ≡ n + 0 = omega arith in
+    rw e (record { read = read; put = subst (Put o n [] o) here (put_none o n) })
 
 -- a record's kind, and the bytes of its cells after it
-kind_put : (s : List ℕ) (row cells : Row) (o : List ℕ) (count kind : ℕ) (now : List ℕ) (r : Taken)
-    → row ≡ after (kind ∷ []) cells → count + 1 ≤ length o → TakenPut s cells (set o count kind) (count + 1) now r → TakenPut s row o count now r
-kind_put s row cells o count kind now r e l t = rw e (record {
-  same = t.same;
-  put = put_then o count (kind ∷ []) cells.bytes (set o count kind) now (count + 1) r.count l (put_sets o (kind ∷ []) count l) t.put;
-  within = t.within;
-})
+kind_put : (s : List ℕ) (row cells : Row) (o : List ℕ) (n kind : ℕ) (now : List ℕ) (r : Result Taken Misfit)
+    → row ≡ after (kind ∷ []) cells → n + 1 ≤ length o → TakenPut s cells (set o n kind) (n + 1) now r → TakenPut s row o n now r
+kind_put s row cells o n kind now r e l t =
+    let long : n + 1 + length cells.bytes ≡ n + length (kind ∷ cells.bytes) = omega arith in
+    rw e (record {
+      read = go r t.read;
+      put = subst (Put o n (kind ∷ cells.bytes) now) long
+          (put_then o n (kind ∷ []) cells.bytes (set o n kind) now (n + 1) (n + 1 + length cells.bytes) l (put_sets o (kind ∷ []) n l) t.put);
+    })
+  where
+    go : (q : Result Taken Misfit) → RowRead s cells (n + 1) q → RowRead s (after (kind ∷ []) cells) n q
+    go (Ok taken) w = record { cause = w.cause; at = w.at; count = omega (arith, w.count); within = w.within }
+    go (Err m) w = record { cause = w.cause; named = w.named; at = w.at; within = w.within }
 
-module _ {s : List ℕ} {at b e : ℕ} (f : Found s at b e) (o : List ℕ) (count : ℕ) where
+module _ {s : List ℕ} {at b e : ℕ} (f : Found s at b e) (o : List ℕ) (n : ℕ) where
   -- the line is what its first word says
   row_of : row_at s at ≡ row_by s b (take (e - b) (drop b s))
   unfolding row_at
   row_of = sym (ap (row_by s b) (part_word f) ∙ ap (λ (n : ℕ). row_by s n (word_of s n)) f.start)
 
   -- an empty line
-  pub row_none : b ≡ e → TakenPut s (row_at s at) o count o (record { cause = 0; column = 11; at = b; count = count })
-  row_none h = none_put s (row_at s at) o count 0 b (row_of ∙ simp (word_none f h)) f.first
+  pub row_none : b ≡ e → TakenPut s (row_at s at) o n o (Ok (record { at = b; count = n }))
+  row_none h =
+      none_put s (row_at s at) o n 0 b (Ok (record { at = b; count = n })) (row_of ∙ simp (word_none f h))
+      (record { cause = refl; at = refl; count = omega arith; within = f.first })
 
-  -- a task
-  pub row_task : (now : List ℕ) (r : Taken) → (b ≡ e → ⊥) → same (take (e - b) (drop b s)) (name 0) ≡ true → count + 1 ≤ length o
-      → TakenPut s (cells_from 7 s b 0) (set o count 1) (count + 1) now r → TakenPut s (row_at s at) o count now r
-  row_task now r h n l t = kind_put s (row_at s at) (cells_from 7 s b 0) o count 1 now r (row_of ∙ simp (word_some f h, n)) l t
+  -- what stands for the row of a line that a kind's name begins
+  abbrev row_as : Kind → Row
+  row_as kind = after (kind_number kind ∷ []) (cells_from (column_count kind) s b (first_column kind))
 
-  -- a use
-  pub row_use : (now : List ℕ) (r : Taken) → (b ≡ e → ⊥) → same (take (e - b) (drop b s)) (name 0) ≡ false
-      → same (take (e - b) (drop b s)) (name 7) ≡ true → count + 1 ≤ length o → TakenPut s (cells_from 4 s b 7) (set o count 2) (count + 1) now r → TakenPut s (row_at s at) o count now r
-  row_use now r h n m l t = kind_put s (row_at s at) (cells_from 4 s b 7) o count 2 now r (row_of ∙ simp (word_some f h, n, m)) l t
+  -- a word that names a kind, by its two tests
+  kind_row : (p q : Bool) (kind : Kind) → cond p (Some Task) (cond q (Some Use) None) ≡ Some kind
+      → cond p (row_as Task) (cond q (row_as Use) (no_row 1 11 b)) ≡ row_as kind
+  kind_row true q Task h = refl
+  kind_row true q Use h = absurd (impossible cc)
+  kind_row false true Task h = absurd (impossible cc)
+  kind_row false true Use h = refl
+  kind_row false false kind h = absurd (impossible cc)
 
-  -- neither
-  pub row_other : (b ≡ e → ⊥) → same (take (e - b) (drop b s)) (name 0) ≡ false → same (take (e - b) (drop b s)) (name 7) ≡ false
-      → TakenPut s (row_at s at) o count o (record { cause = 1; column = 11; at = b; count = count })
-  row_other h n m = none_put s (row_at s at) o count 1 b (row_of ∙ simp (word_some f h, n, m)) f.first
+  -- and one that names none
+  none_row : (p q : Bool) → ◌≡◌ {A = Option Kind} (cond p (Some Task) (cond q (Some Use) None)) None
+      → cond p (row_as Task) (cond q (row_as Use) (no_row 1 11 b)) ≡ no_row 1 11 b
+  none_row true q h = absurd (impossible cc)
+  none_row false true h = absurd (impossible cc)
+  none_row false false h = refl
+
+  -- a line that a kind's name begins
+  pub row_kind : (kind : Kind) (now : List ℕ) (r : Result Taken Misfit) → (b ≡ e → ⊥) → kind_named (take (e - b) (drop b s)) ≡ Some kind → n + 1 ≤ length o
+      → TakenPut s (cells_from (column_count kind) s b (first_column kind)) (set o n (kind_number kind)) (n + 1) now r → TakenPut s (row_at s at) o n now r
+  row_kind kind now r h named l t =
+      let w = take (e - b) (drop b s) in
+      kind_put s (row_at s at) (cells_from (column_count kind) s b (first_column kind)) o n (kind_number kind) now r
+      (row_of ∙ simp (word_some f h) (kind_row (same w (name 0)) (same w (name 7)) kind named)) l t
+
+  -- a line that another word begins
+  pub row_other : (b ≡ e → ⊥) → kind_named (take (e - b) (drop b s)) ≡ None
+      → TakenPut s (row_at s at) o n o (Err (record { cause = FirstWord; column = None; at = b }))
+  row_other h none =
+      let w = take (e - b) (drop b s) in
+      none_put s (row_at s at) o n 1 b (Err (record { cause = FirstWord; column = None; at = b }))
+      (row_of ∙ simp (word_some f h) (none_row (same w (name 0)) (same w (name 7)) none))
+      (record { cause = refl; named = refl; at = refl; within = f.first })

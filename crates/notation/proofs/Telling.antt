@@ -11,6 +11,9 @@ use lib.Dec.{ltb, leb, eqb}
 use lib.ListN.{get_or}
 use Rattle.searches.specs.Indexed.{sum_to}
 use Rattle.searches.proofs.Testing.{impossible, and_true, true_and}
+use Rattle.std.specs.Prelude.{Err}
+use Rattle.table.specs.declared.Why.{Why}
+use Rattle.table.specs.Replies.{why_number}
 use Rattle.table.specs.declared.walk.Walk.{Walk}
 use Rattle.table.specs.Fields.{word_at, task_at, use_at}
 use Rattle.table.specs.Ranges.{task_fits, use_fits}
@@ -21,7 +24,7 @@ use Rattle.table.proofs.Laws.{place_within, place_has}
 use Rattle.table.proofs.Accepted.{Seen, user_found, sum_own}
 use Rattle.notation.specs.Reasons.{reason, range_reason, task_reason, use_reason, reason_at}
 use Rattle.notation.specs.Truths.{owner_at, Told, setting_high, sleepless, run_high, deadline_high, one_too_many, after_use, not_below, of_no_task, out_of_order, past_run}
-use Rattle.notation.proofs.Ruled.{task_ruled, use_ruled}
+use Rattle.notation.proofs.Ruled.{task_refused, use_refused}
 use Rattle.notation.proofs.Reached.{Marks}
 use Rattle.notation.proofs.Wholes.{TaskWhole, UseWhole}
 
@@ -102,18 +105,17 @@ module _ (all : List ℕ) (w : Walk) (g : Seen all w) (m : Marks all w) where
           (not_below whole.kind n (omega (arith, g.place)) (omega (arith, m.last n))))
 
   -- a task that its rule refuses
-  pub task_true : TaskWhole all w.at → (k : ℕ) → task_rule w (task_at all w.at) ≡ k → (k ≡ 0 → ⊥)
-      → Told all w.at w.tasks (reason_at all w.at w.tasks k)
+  pub task_true : TaskWhole all w.at → (y : Why) → task_rule w (task_at all w.at) ≡ Err y
+      → Told all w.at w.tasks (reason_at all w.at w.tasks (why_number y))
   unfolding task_reason
-  task_true whole k e some =
+  task_true whole y e =
       rw whole.kind
       (⊎_elim (λ q. subst told (sym q.0) (one_too_many whole.kind (omega (arith, q.1, g.tasks_most))))
       (⊎_elim (λ q. subst told (sym q.0) (order_true whole q.1))
-      (⊎_elim (λ q. absurd (some q.0))
-      (λ q. subst told (sym q.0) (range_true all w.at w.tasks whole q.1)))) (task_ruled w (task_at all w.at) k e))
+      (λ q. subst told (sym q.0) (range_true all w.at w.tasks whole q.1))) (task_refused w (task_at all w.at) y e))
     where
-      told : ℕ → Type 0
-      told x = Told all w.at w.tasks (task_reason all w.at w.tasks x)
+      told : Why → Type 0
+      told x = Told all w.at w.tasks (task_reason all w.at w.tasks (why_number x))
 
 -- ---- a use
 
@@ -203,14 +205,13 @@ module _ (all : List ℕ) (w : Walk) (g : Seen all w) (m : Marks all w) (kind : 
       (subst (λ (i : ℕ). word_at all (20 * i + 4) < sum_to (sections_by all w.tasks (20 * w.tasks) i) (w.uses + 1)) (sym found) sum)
 
   -- a use that its rule refuses
-  pub use_true : UseWhole all w.at → (k : ℕ) → use_rule w (use_at all w.at) (user_at all w) (word_at all (20 * user_at all w + 4)) ≡ k → (k ≡ 0 → ⊥)
-      → Told all w.at w.tasks (reason_at all w.at w.tasks k)
-  use_true whole k e some =
+  pub use_true : UseWhole all w.at → (y : Why) → use_rule w (use_at all w.at) (user_at all w) (word_at all (20 * user_at all w + 4)) ≡ Err y
+      → Told all w.at w.tasks (reason_at all w.at w.tasks (why_number y))
+  use_true whole y e =
       rw whole.kind
       (⊎_elim (λ q. subst told (sym q.0) (use_order q.1))
       (⊎_elim (λ q. let f = use_fits_lem all w.at whole in let b = q.1 in absurd (impossible cc))
-      (⊎_elim (λ q. subst told (sym q.0) (use_long q.1 q.2))
-      (λ q. absurd (some q.0)))) (use_ruled w (use_at all w.at) (user_at all w) (word_at all (20 * user_at all w + 4)) k e))
+      (λ q. subst told (sym q.0) (use_long q.1 q.2))) (use_refused w (use_at all w.at) (user_at all w) (word_at all (20 * user_at all w + 4)) y e))
     where
-      told : ℕ → Type 0
-      told x = Told all w.at w.tasks (use_reason all w.at w.tasks x)
+      told : Why → Type 0
+      told x = Told all w.at w.tasks (use_reason all w.at w.tasks (why_number x))

@@ -9,8 +9,8 @@ use lib.ListN.{length, get_or, take, drop, length-drop, take-append-drop, drop_o
 use lib.Seq.{drop-cons, length-take-le, take-add}
 use borrow.Author.Tests.{le-ltb}
 use Rattle.table.specs.declared.Shape.{Shape}
-use Rattle.table.specs.declared.Reading.{Reading}
-use Rattle.table.specs.declared.Reading.TheVariants.{Accepted}
+use Rattle.table.specs.Reading.{Reading}
+use Rattle.std.specs.Prelude.{Ok}
 use Rattle.table.specs.Fields.{task_at}
 use Rattle.table.specs.Reading.{read_table}
 use Rattle.table.specs.WellFormed.{use_of, user_of, TaskInRange, WellFormed}
@@ -72,7 +72,7 @@ heading_end t s rest f =
     ends_blank t s [] (heading ++ rest) refl refl (omega arith)
     (ends_blank t s [] (drop (lead (in_class 2) (heading ++ rest) + 1) (heading ++ rest)) refl refl (omega arith) f)
 
-module _ (s : List ℕ) (bytes : (i : ℕ) → get_or s i 0 < 256) (h : Shape) (e : read_table s ≡ Accepted h) (t : List ℕ) where
+module _ (s : List ℕ) (bytes : (i : ℕ) → get_or s i 0 < 256) (h : Shape) (e : read_table s ≡ Ok h) (t : List ℕ) where
   -- from the line of use j on
   uses_end : (c j : ℕ) → j + c ≡ h.uses → Ends t s (front s h.tasks j) (joined (use_row s h.uses_at) c j)
   unfolding joined
@@ -120,7 +120,7 @@ module _ (s : List ℕ) (bytes : (i : ℕ) → get_or s i 0 < 256) (h : Shape) (
       (tasks_end c (k + 1) (omega arith)))
 
 -- the text of an accepted table packs back to the table's bytes
-pub packed_again : (s : List ℕ) → ((i : ℕ) → get_or s i 0 < 256) → (h : Shape) → read_table s ≡ Accepted h → pack_text (shown s) ≡ packed s
+pub packed_again : (s : List ℕ) → ((i : ℕ) → get_or s i 0 < 256) → (h : Shape) → read_table s ≡ Ok h → pack_text (shown s) ≡ packed s
 unfolding pack_text rows_text shown
 packed_again s bytes h e =
     let f = well_formed s h e in

@@ -9,18 +9,15 @@ use borrow.Author.Tests.{eqb-true, eqb-false}
 use lib.Dec.{ltb, leb, eqb}
 use lib.ListN.{length}
 use Rattle.searches.proofs.Testing.{impossible}
-use Rattle.table.specs.declared.Reading.{Reading}
-use Rattle.table.specs.declared.Reading.TheVariants.{Accepted, Refused}
+use Rattle.table.specs.Reading.{Reading}
+use Rattle.std.specs.Prelude.{Ok, Err}
 use Rattle.table.specs.Reading.{read_table}
 use Rattle.words.specs.Finding.{word_start, word_of, run_end, same, is_number, value_of}
-use Rattle.notation.specs.declared.Fault.{Fault}
-use Rattle.notation.specs.declared.Packing.TheVariants.{Faulty}
-use Rattle.notation.specs.declared.rows.Cell.{Cell}
-use Rattle.notation.specs.declared.reasons.Reason.{Reason}
 use Rattle.notation.specs.declared.stepping.Position.{Position}
+use Rattle.notation.specs.Numbered.{Fault, Faulty}
 use Rattle.notation.specs.Columns.{name, least, most}
-use Rattle.notation.specs.Rows.{Row, number_at, cell_at, cells_from, row_at}
-use Rattle.notation.specs.Reasons.{reason}
+use Rattle.notation.specs.Rows.{Cell, Row, number_at, cell_at, cells_from, row_at}
+use Rattle.notation.specs.Reasons.{Reason, reason}
 use Rattle.notation.specs.Packing.{longest, Outcome, faulty, whole, Step, on, over, past, judged, line_step, ended, end_of, step_at, onward, pack_from, start, pack_text, pack_into}
 use Rattle.notation.specs.Truths.{Told, SoFar, Before, none, line, TrueFault}
 use Rattle.notation.proofs.Naming.{chosen}
@@ -87,8 +84,8 @@ module _ (s : List ℕ) (w : Position) (records : List ℕ) (far : SoFar w recor
   end_fate = go (read_table (records ++ 3 ∷ []))
     where
       go : (r : Reading) → Fair s w records (ended r w (records ++ 3 ∷ []))
-      go (Accepted h) = λ f e low high. absurd (impossible cc)
-      go (Refused r) = other_cause _ (λ l h. omega arith)
+      go (Ok h) = λ f e low high. absurd (impossible cc)
+      go (Err r) = other_cause _ (λ l h. omega arith)
 
   -- a line
   line_fate : Fate s w records (line_step s w records)
@@ -104,8 +101,8 @@ module _ (s : List ℕ) (w : Position) (records : List ℕ) (far : SoFar w recor
           (judged r s w (row_at s w.at).at (records ++ (row_at s w.at).bytes)))
           (over (faulty (record { line = w.line; cause = (row_at s w.at).cause; column = (row_at s w.at).column; at = (row_at s w.at).at; value = 0; other = 0 }))))
       go true true r p q e = record { count = far.count; stand = far.stand }
-      go true false (Accepted h) p q e = record { count = refl; stand = inr (record { shape = h; accepted = e; tasks = refl }) }
-      go true false (Refused r) p q e =
+      go true false (Ok h) p q e = record { count = refl; stand = inr (record { shape = h; accepted = e; tasks = refl }) }
+      go true false (Err r) p q e =
           let some = eqb-false (length (row_at s w.at).bytes) 0 q in
           fair_reason _ (told s w records far (eqb-true (row_at s w.at).cause 0 p) (omega arith) r e)
       go false b r p q e = other_cause _ (λ l h. omega (arith, row_cause s w.at))

@@ -13,9 +13,8 @@ use Rattle.table.specs.Fields.{word_at, task_at, use_at}
 use Rattle.held.specs.Writing.{word_bytes}
 use Rattle.held.proofs.Laying.{word_back}
 use Rattle.words.specs.Finding.{word_start, word_of, run_end, same, is_number, value_of}
-use Rattle.notation.specs.declared.rows.Cell.{Cell}
 use Rattle.notation.specs.Columns.{name, least, most, wide, value_bytes}
-use Rattle.notation.specs.Rows.{Row, no_row, after, no_cell, with_cell, number_at, cell_at, cells_from, row_at}
+use Rattle.notation.specs.Rows.{Cell, Row, no_row, after, no_cell, with_cell, number_at, cell_at, cells_from, row_at}
 use Rattle.notation.proofs.Naming.{chosen}
 
 -- ---- a cell

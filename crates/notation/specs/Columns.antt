@@ -1,8 +1,29 @@
 -- The columns of a line, by number: 0 to 6 a task's, 7 to 10 a use's, 11 none.
-use Rattle.std.specs.Prelude.{ℕ, ◌+◌, ◌*◌, ◌-◌, ◌%◌, Bool, cond, ◌&&◌, ◌||◌, List, [], ◌∷◌, ltb, leb, eqb, get_or}
+use Rattle.std.specs.Prelude.{ℕ, ◌+◌, ◌*◌, ◌-◌, ◌%◌, Bool, cond, ◌&&◌, ◌||◌, List, [], ◌∷◌, ltb, leb, eqb, get_or, Option, Some, None}
+use Rattle.notation.specs.declared.columns.Column.{Column}
+use Rattle.notation.specs.declared.columns.Column.TheVariants.{Task, Setting, Sleeps, Run, Sleep, Deadline, Period, Use, Resource, Times, Length}
 use Rattle.table.specs.Fields.{word_at}
 use Rattle.held.specs.Writing.{word_bytes}
 use Rattle.words.specs.Text.{text}
+
+-- a column's number
+abbrev pub column_number : Column → ℕ
+column_number Task = 0
+column_number Setting = 1
+column_number Sleeps = 2
+column_number Run = 3
+column_number Sleep = 4
+column_number Deadline = 5
+column_number Period = 6
+column_number Use = 7
+column_number Resource = 8
+column_number Times = 9
+column_number Length = 10
+
+-- and that of a column or none
+abbrev pub column_or_none : Option Column → ℕ
+column_or_none (Some c) = column_number c
+column_or_none None = 11
 
 -- the name that stands before the value
 unfoldable pub name : ℕ → List ℕ

@@ -2,9 +2,7 @@
 use Rattle.std.specs.Prelude.{ℕ, cond, ◌||◌, List, [], ◌++◌, leb, eqb}
 use Rattle.words.specs.Text.{text, labelled, newline}
 use Rattle.words.specs.Finding.{word_of, found_text}
-use Rattle.notation.specs.declared.Fault.{Fault}
-use Rattle.notation.specs.declared.Packing.{Packing}
-use Rattle.notation.specs.declared.Packing.TheVariants.{Packed, Faulty}
+use Rattle.notation.specs.Numbered.{Fault, Packing, Packed, Faulty}
 use Rattle.notation.specs.Columns.{name, least, most}
 use Rattle.notation.specs.Packing.{pack_text}
 

@@ -1,4 +1,7 @@
 pub mod Columns
+pub mod Kinds
+pub mod Causes
+pub mod Numbered
 pub mod Rows
 pub mod Taking
 pub mod Reasons

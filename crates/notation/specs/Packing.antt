@@ -1,13 +1,10 @@
 -- What a text is packed as: line by line, the first at fault decides.
-use Rattle.std.specs.Prelude.{ℕ, zero, suc, ◌+◌, cond, List, [], ◌∷◌, ◌++◌, ltb, leb, eqb, length}
-use Rattle.table.specs.declared.Reading.{Reading}
-use Rattle.table.specs.declared.Reading.TheVariants.{Accepted, Refused}
-use Rattle.table.specs.Reading.{read_table}
+use Rattle.std.specs.Prelude.{ℕ, zero, suc, ◌+◌, cond, List, [], ◌∷◌, ◌++◌, ltb, leb, eqb, length, Ok, Err}
+use Rattle.table.specs.Replies.{why_number}
+use Rattle.table.specs.Reading.{Reading, read_table}
 use Rattle.words.specs.Finding.{next_line}
-use Rattle.notation.specs.declared.Fault.{Fault}
-use Rattle.notation.specs.declared.Packing.{Packing}
-use Rattle.notation.specs.declared.Packing.TheVariants.{Packed, Faulty}
 use Rattle.notation.specs.declared.stepping.Position.{Position}
+use Rattle.notation.specs.Numbered.{Fault, Packing, Packed, Faulty}
 use Rattle.notation.specs.Rows.{row_at}
 use Rattle.notation.specs.Reasons.{reason_at}
 
@@ -43,9 +40,9 @@ past s w at count n = record { at = next_line s at; line = w.line + 1; count = c
 
 -- a record, by what the reader says of it after those before it, with an end
 abbrev pub judged : Reading → List ℕ → Position → ℕ → List ℕ → Step
-judged (Accepted h) s w at records = on (past s w at (length records) h.tasks) records
-judged (Refused r) s w at records =
-    let why = reason_at records w.count w.tasks r.number in
+judged (Ok h) s w at records = on (past s w at (length records) h.tasks) records
+judged (Err r) s w at records =
+    let why = reason_at records w.count w.tasks (why_number r.why) in
     over (faulty (record { line = w.line; cause = why.cause; column = 11; at = 0; value = why.value; other = why.other }))
 
 -- a line, after the records so far
@@ -59,8 +56,8 @@ line_step s w records =
 
 -- the end of the text: the records so far with an end, where the reader accepts them
 abbrev pub ended : Reading → Position → List ℕ → Outcome
-ended (Accepted h) w s = packed s
-ended (Refused r) w s = whole w.line 17
+ended (Ok h) w s = packed s
+ended (Err r) w s = whole w.line 17
 
 unfoldable pub end_of : Position → List ℕ → Outcome
 end_of w records = ended (read_table (records ++ 3 ∷ [])) w (records ++ 3 ∷ [])

@@ -3,7 +3,18 @@ use Rattle.std.specs.Prelude.{ℕ, ◌+◌, ◌*◌, ◌-◌, cond, ◌&&◌, Li
 use Rattle.table.specs.declared.Task.{Task}
 use Rattle.table.specs.Fields.{word_at, task_at}
 use Rattle.table.specs.Rules.{place_from}
-use Rattle.notation.specs.declared.reasons.Reason.{Reason}
+use Rattle.notation.specs.declared.reasons.Reason.{Reason as NamedReason}
+use Rattle.notation.specs.Causes.{cause_number}
+
+-- the cause, and the two values that show it
+pub record Reason : Type 0 where
+  pub cause : ℕ
+  pub value : ℕ
+  pub other : ℕ
+
+-- a reason of the code's, which names its cause
+abbrev pub reason_of : NamedReason → Reason
+reason_of why = record { cause = cause_number why.cause; value = why.value; other = why.other }
 
 -- a rule that is broken, and the two values that show it
 abbrev pub reason : ℕ → ℕ → ℕ → Reason

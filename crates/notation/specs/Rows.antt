@@ -1,8 +1,14 @@
 -- What a line of text says: names and values by turns, in the order of the columns; after # nothing counts.
 use Rattle.std.specs.Prelude.{ℕ, zero, suc, ◌+◌, cond, List, [], ◌∷◌, ◌++◌, ltb, eqb, length}
 use Rattle.words.specs.Finding.{run_end, word_start, word_of, same, is_number, value_of}
-use Rattle.notation.specs.declared.rows.Cell.{Cell}
 use Rattle.notation.specs.Columns.{name, least, most, value_bytes}
+
+-- a column's value and where it ends, with cause 0; or the cause of a fault; and the word that was read
+pub record Cell : Type 0 where
+  pub cause : ℕ
+  pub at : ℕ
+  pub end : ℕ
+  pub value : ℕ
 
 -- no value: the cause, and the word at fault
 abbrev pub no_cell : ℕ → ℕ → Cell

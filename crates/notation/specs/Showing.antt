@@ -1,8 +1,6 @@
 -- The text of a table: a heading, then a line for each task and each use, in columns.
-use Rattle.std.specs.Prelude.{ℕ, ◌+◌, ◌*◌, ◌-◌, cond, ◌||◌, List, ◌∷◌, ◌++◌, eqb, length, replicate}
-use Rattle.table.specs.declared.Reading.{Reading}
-use Rattle.table.specs.declared.Reading.TheVariants.{Accepted, Refused}
-use Rattle.table.specs.Reading.{read_table}
+use Rattle.std.specs.Prelude.{ℕ, ◌+◌, ◌*◌, ◌-◌, cond, ◌||◌, List, ◌∷◌, ◌++◌, eqb, length, replicate, Ok, Err}
+use Rattle.table.specs.Reading.{Reading, read_table}
 use Rattle.words.specs.Text.{text, decimal, newline, joined}
 use Rattle.words.specs.Refusing.{refusal_line}
 use Rattle.notation.specs.Columns.{name, width, field_at}
@@ -39,8 +37,8 @@ table_text s tasks from uses = heading ++ (rows_text s 0 7 0 20 tasks ++ rows_te
 
 -- by what the table is read as: its text, or the line of its refusal
 abbrev pub shown_by : Reading → List ℕ → List ℕ
-shown_by (Accepted h) s = table_text s h.tasks h.uses_at h.uses
-shown_by (Refused r) s = refusal_line r
+shown_by (Ok h) s = table_text s h.tasks h.uses_at h.uses
+shown_by (Err r) s = refusal_line r
 
 -- what show prints of a table's bytes
 unfoldable pub shown : List ℕ → List ℕ

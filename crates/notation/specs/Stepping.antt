@@ -1,12 +1,10 @@
 -- What is so of packing between two lines, and of a step. For the proofs of private functions: no promise to a caller.
-use Rattle.std.specs.Prelude.{ℕ, ◌+◌, ◌*◌, ◌≤◌, ◌<◌, ◌≡◌, List, [], ◌∷◌, ◌++◌, length, take}
+use Rattle.std.specs.Prelude.{ℕ, ◌+◌, ◌*◌, ◌≤◌, ◌<◌, ◌≡◌, List, [], ◌∷◌, ◌++◌, length, take, Result, Ok, Err}
 use Rattle.table.specs.Reading.{read_table}
-use Rattle.notation.specs.declared.Packing.{Packing}
-use Rattle.notation.specs.declared.Packing.TheVariants.{Packed, Faulty}
+use Rattle.notation.specs.declared.Fault.{Fault as NamedFault}
 use Rattle.notation.specs.declared.stepping.Position.{Position}
-use Rattle.notation.specs.declared.stepping.Turn.{Turn}
-use Rattle.notation.specs.declared.stepping.Turn.TheVariants.{Next, Last}
 use Rattle.notation.specs.declared.rows.Taken.{Taken}
+use Rattle.notation.specs.Numbered.{Packing, Packed, Faulty, packing_of}
 use Rattle.notation.specs.Packing.{longest, Outcome, Step, on, over, judged}
 
 -- the records so far, at the front of a buffer
@@ -40,8 +38,8 @@ count_in (Packed n) = n
 count_in (Faulty f) = 0
 
 -- the answer is the one that is meant, and its bytes are at the front of the buffer
-pub record PackedTo (o : Outcome) (buffer : List ℕ) (r : Packing) : Type 0 where
-  pub same : r ≡ o.packing
+pub record PackedTo (o : Outcome) (buffer : List ℕ) (r : Result ℕ NamedFault) : Type 0 where
+  pub same : packing_of r ≡ o.packing
   pub front : take (length o.bytes) buffer ≡ o.bytes
   pub count : count_in o.packing ≡ length o.bytes
   pub few : length o.bytes ≤ 4800
@@ -54,8 +52,8 @@ pub record WentOn (s : List ℕ) (w meant : Position) (front buffer : List ℕ) 
   pub further : w.at < n.at
 
 -- a step is the one that is meant
-abbrev pub Stepped : List ℕ → Position → Step → List ℕ → Turn → Type 0
-Stepped s w (on meant front) buffer (Next n) = WentOn s w meant front buffer n
-Stepped s w (on meant front) buffer (Last r) = ⊥
-Stepped s w (over o) buffer (Next n) = ⊥
-Stepped s w (over o) buffer (Last r) = PackedTo o buffer r
+abbrev pub Stepped : List ℕ → Position → Step → List ℕ → Result Position NamedFault → Type 0
+Stepped s w (on meant front) buffer (Ok n) = WentOn s w meant front buffer n
+Stepped s w (on meant front) buffer (Err f) = ⊥
+Stepped s w (over o) buffer (Ok n) = ⊥
+Stepped s w (over o) buffer (Err f) = PackedTo o buffer (Err f)

@@ -1,16 +1,14 @@
 -- What each cause of a refused record says of the records, as a person reads it: the fault that is printed is one that is there.
-use Rattle.std.specs.Prelude.{ℕ, ◌+◌, ◌*◌, ◌-◌, ◌≤◌, ◌<◌, ◌≡◌, ◌⊎◌, List, [], ◌∷◌, ◌++◌, get_or, length}
+use Rattle.std.specs.Prelude.{ℕ, ◌+◌, ◌*◌, ◌-◌, ◌≤◌, ◌<◌, ◌≡◌, ◌⊎◌, List, [], ◌∷◌, ◌++◌, get_or, length, Ok}
 use Rattle.searches.specs.Indexed.{sum_to}
 use Rattle.table.specs.declared.Shape.{Shape}
-use Rattle.table.specs.declared.Reading.TheVariants.{Accepted}
 use Rattle.table.specs.Fields.{task_at, use_at}
 use Rattle.table.specs.Rules.{place_from}
 use Rattle.table.specs.Reading.{read_table}
 use Rattle.table.specs.WellFormed.{task_of, sections_by}
-use Rattle.notation.specs.declared.Fault.{Fault}
-use Rattle.notation.specs.declared.reasons.Reason.{Reason}
 use Rattle.notation.specs.declared.stepping.Position.{Position}
-use Rattle.notation.specs.Reasons.{reason}
+use Rattle.notation.specs.Numbered.{Fault}
+use Rattle.notation.specs.Reasons.{Reason, reason}
 use Rattle.notation.specs.Rows.{row_at}
 use Rattle.notation.specs.Packing.{on, step_at, start}
 
@@ -50,7 +48,7 @@ pub data Told (all : List ℕ) (at n : ℕ) : Reason → Type 0 where
 -- records that the reader accepts with an end, as a table of n tasks
 pub record Standing (records : List ℕ) (n : ℕ) : Type 0 where
   pub shape : Shape
-  pub accepted : read_table (records ++ 3 ∷ []) ≡ Accepted shape
+  pub accepted : read_table (records ++ 3 ∷ []) ≡ Ok shape
   pub tasks : n ≡ shape.tasks
 
 -- the records so far are those that a position counts: none, or accepted ones

@@ -1,125 +1,120 @@
-// The columns of a line, by number: 0 to 6 a task's, 7 to 10 a use's, 11 none.
+// The columns of a line: the name before a value, its range, its width and where it lies in a record.
 ghost use Rattle.std.specs.Prelude.{◌≡◌, ◌+◌, ◌≤◌, length};
-ghost use Rattle.words.specs.Finding.{same};
-ghost use Rattle.words.specs.Writing.{Put};
-ghost use Rattle.notation.specs.Columns.{name, least, most, width, wide, offset, field_at};
+ghost use Rattle.notation.specs.Columns.{column_number, name, least, most, width, wide, offset, field_at};
 
-use words::{put_text, same};
-
-// Whether a word is the name of a column.
-#[tactic(auto, unfolding(crate::specs::Columns::name))]
-pub fn is_name(word: &[u8], column: u8) -> bool
-    ensures { result ≡ same word.now (name column) }
-{
-    match column {
-        0 => same(word, b"task"),
-        1 => same(word, b"setting"),
-        2 => same(word, b"sleeps"),
-        3 => same(word, b"run"),
-        4 => same(word, b"sleep"),
-        5 => same(word, b"deadline"),
-        6 => same(word, b"period"),
-        7 => same(word, b"use"),
-        8 => same(word, b"resource"),
-        9 => same(word, b"times"),
-        10 => same(word, b"length"),
-        _ => same(word, b""),
-    }
+// A column: the first seven are a task's, the others a use's.
+#[derive(Clone, Copy, PartialEq, Eq)]
+pub enum Column {
+    Task,
+    Setting,
+    Sleeps,
+    Run,
+    Sleep,
+    Deadline,
+    Period,
+    Use,
+    Resource,
+    Times,
+    Length,
 }
 
-// Puts the name of a column.
-#[tactic(auto, unfolding(crate::specs::Columns::name))]
-pub fn put_name(out: &mut [u8], at: usize, column: u8) -> usize
-    requires { at + 8 ≤ length out.old }
-    ensures put { Put out.old at (name column) out.new result }
-    ensures upper_bound { result ≤ at + 8 }
-{
-    match column {
-        0 => put_text(out, at, b"task"),
-        1 => put_text(out, at, b"setting"),
-        2 => put_text(out, at, b"sleeps"),
-        3 => put_text(out, at, b"run"),
-        4 => put_text(out, at, b"sleep"),
-        5 => put_text(out, at, b"deadline"),
-        6 => put_text(out, at, b"period"),
-        7 => put_text(out, at, b"use"),
-        8 => put_text(out, at, b"resource"),
-        9 => put_text(out, at, b"times"),
-        10 => put_text(out, at, b"length"),
-        _ => at,
+impl Column {
+    // The name that stands before the value.
+    #[tactic(auto, unfolding(crate::specs::Columns::name))]
+    pub fn name(self) -> &'static [u8]
+        ensures value { result.now ≡ name (column_number self) }
+        ensures upper_bound { length result.now ≤ 8 }
+    {
+        match self {
+            Column::Task => b"task",
+            Column::Setting => b"setting",
+            Column::Sleeps => b"sleeps",
+            Column::Run => b"run",
+            Column::Sleep => b"sleep",
+            Column::Deadline => b"deadline",
+            Column::Period => b"period",
+            Column::Use => b"use",
+            Column::Resource => b"resource",
+            Column::Times => b"times",
+            Column::Length => b"length",
+        }
     }
-}
 
-// The least value of a column.
-#[tactic(auto, unfolding(crate::specs::Columns::least))]
-pub fn least(column: u8) -> u32
-    ensures { result ≡ least column }
-{
-    match column {
-        1 | 2 | 4 => 0,
-        _ => 1,
+    // The least value.
+    #[tactic(auto, unfolding(crate::specs::Columns::least))]
+    pub(crate) fn least(self) -> u32
+        ensures { result ≡ least (column_number self) }
+    {
+        match self {
+            Column::Setting | Column::Sleeps | Column::Sleep => 0,
+            _ => 1,
+        }
     }
-}
 
-// The largest value of a column.
-#[tactic(auto, unfolding(crate::specs::Columns::most))]
-pub fn most(column: u8) -> u32
-    ensures { result ≡ most column }
-{
-    match column {
-        1 => 254,
-        2 => 64,
-        8 => 16,
-        0 | 7 | 9 => 255,
-        _ => 1000000,
+    // The largest value.
+    #[tactic(auto, unfolding(crate::specs::Columns::most))]
+    pub(crate) fn most(self) -> u32
+        ensures { result ≡ most (column_number self) }
+    {
+        match self {
+            Column::Setting => 254,
+            Column::Sleeps => 64,
+            Column::Resource => 16,
+            Column::Task | Column::Use | Column::Times => 255,
+            _ => 1000000,
+        }
     }
-}
 
-// How many digits are laid out for a value of a column.
-#[tactic(auto, unfolding(crate::specs::Columns::width))]
-pub fn width(column: u8) -> usize
-    ensures { (result ≡ width column) × (result ≤ 7) }
-{
-    match column {
-        2 | 8 => 2,
-        0 | 1 | 9 => 3,
-        7 => 4,
-        _ => 7,
+    // How many digits are laid out for the value.
+    #[tactic(auto, unfolding(crate::specs::Columns::width))]
+    pub(crate) fn width(self) -> usize
+        ensures { (result ≡ width (column_number self)) × (result ≤ 7) }
+    {
+        match self {
+            Column::Sleeps | Column::Resource => 2,
+            Column::Task | Column::Setting | Column::Times => 3,
+            Column::Use => 4,
+            _ => 7,
+        }
     }
-}
 
-// Whether a value of a column has four bytes.
-#[tactic(auto, unfolding(crate::specs::Columns::wide))]
-pub fn is_wide(column: u8) -> bool
-    ensures { result ≡ wide column }
-{
-    match column {
-        3..=6 | 10 => true,
-        _ => false,
+    // Whether the value has four bytes: a time.
+    #[tactic(auto, unfolding(crate::specs::Columns::wide))]
+    pub(crate) fn is_wide(self) -> bool
+        ensures { result ≡ wide (column_number self) }
+    {
+        matches!(
+            self,
+            Column::Run | Column::Sleep | Column::Deadline | Column::Period | Column::Length
+        )
     }
-}
 
-// Where a column's value starts in its record.
-fn offset(column: u8) -> usize
-    ensures { (result ≡ offset column) × (result ≤ 249) }
-{
-    if column < 3 {
-        return column as usize + 1;
+    // Where the value starts in its record.
+    #[tactic(auto, unfolding(crate::specs::Columns::offset))]
+    fn offset(self) -> usize
+        ensures { (result ≡ offset (column_number self)) × (result ≤ 16) }
+    {
+        match self {
+            Column::Task | Column::Use => 1,
+            Column::Setting | Column::Resource => 2,
+            Column::Sleeps | Column::Times => 3,
+            Column::Run | Column::Length => 4,
+            Column::Sleep => 8,
+            Column::Deadline => 12,
+            Column::Period => 16,
+        }
     }
-    if column < 7 {
-        return 4 * (column as usize) - 8;
-    }
-    column as usize - 6
-}
 
-// The column's value in the record that starts at a place.
-pub fn field_at(bytes: &[u8], at: usize, column: u8) -> u32
-    requires { at + 249 ≤ 18446744073709551615 }
-    ensures { result ≡ field_at bytes.now at column }
-{
-    let place = at + offset(column);
-    if is_wide(column) {
-        return table::word_at(bytes, place);
+    // The value in the record that starts at a place.
+    pub(crate) fn field_at(self, bytes: &[u8], at: usize) -> u32
+        requires { at + 16 ≤ 18446744073709551615 }
+        ensures { result ≡ field_at bytes.now at (column_number self) }
+    {
+        let place = at + self.offset();
+        if self.is_wide() {
+            table::word_at(bytes, place)
+        } else {
+            u32::from(table::byte_at(bytes, place))
+        }
     }
-    table::byte_at(bytes, place) as u32
 }

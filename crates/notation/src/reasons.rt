@@ -1,20 +1,24 @@
 // Why the reader refuses a record, in words of its line.
-ghost use Rattle.std.specs.Prelude.{◌≡◌, ◌+◌, ◌*◌, ◌-◌, ◌≤◌, length};
-ghost use Rattle.notation.specs.Reasons.{reason, range_reason, task_reason, use_reason, reason_at};
+ghost use Rattle.std.specs.Prelude.{◌≡◌, ◌*◌, ◌≤◌, length};
+ghost use Rattle.table.specs.Replies.{why_number};
+ghost use Rattle.notation.specs.Causes.{cause_number};
+ghost use Rattle.notation.specs.Reasons.{reason, reason_of, range_reason, task_reason, use_reason, reason_at};
 
-use table::{Task, byte_at};
+use crate::causes::Cause;
+use crate::kinds::Kind;
+use table::{Task, Why, byte_at};
 
 // The cause, and the two values that show it.
 #[derive(Clone, Copy)]
 pub struct Reason {
-    pub cause: u8,
+    pub cause: Cause,
     pub value: u32,
     pub other: u32,
 }
 
 // A reason with two values.
-fn because(cause: u8, value: u32, other: u32) -> Reason
-    ensures { result ≡ reason cause value other }
+fn because(cause: Cause, value: u32, other: u32) -> Reason
+    ensures { reason_of result ≡ reason (cause_number cause) value other }
 {
     Reason {
         cause,
@@ -23,73 +27,72 @@ fn because(cause: u8, value: u32, other: u32) -> Reason
     }
 }
 
-// A place so many bytes back, or the front.
-fn back(at: usize, by: usize) -> usize
-    ensures { result ≡ at - by }
-{
-    if at < by {
-        return 0;
-    }
-    at - by
-}
-
 // What is wrong with the fields of a task.
+#[tactic(auto, unfolding(crate::specs::Reasons::range_reason))]
 fn range_reason(task: Task) -> Reason
-    ensures { result ≡ range_reason task }
+    ensures { reason_of result ≡ range_reason task }
 {
     if task.priority <= task.setting {
-        return because(7, task.setting as u32, task.priority as u32);
+        return because(
+            Cause::SettingHigh,
+            u32::from(task.setting),
+            u32::from(task.priority),
+        );
     }
-    if (task.sleeps == 0) & (0 < task.sleep) {
-        return because(8, task.sleep, 0);
+    if task.sleeps == 0 && 0 < task.sleep {
+        return because(Cause::Sleepless, task.sleep, 0);
     }
     if task.deadline < task.run {
-        return because(9, task.run, task.deadline);
+        return because(Cause::RunHigh, task.run, task.deadline);
     }
-    because(10, task.deadline, task.period)
+    because(Cause::DeadlineHigh, task.deadline, task.period)
 }
 
-// Why the task record that starts at a place is refused with a number, after so many tasks.
-fn task_reason(records: &[u8], at: usize, tasks: usize, number: u8) -> Reason
+// Why the task record that starts at a place is refused, after so many tasks.
+#[tactic(auto, unfolding(crate::specs::Reasons::task_reason))]
+fn task_reason(records: &[u8], at: usize, tasks: usize, why: Why) -> Reason
     requires { (at ≤ 4800) × (20 * tasks ≤ length records.now) }
-    ensures { result ≡ task_reason records.now at tasks number }
+    ensures { reason_of result ≡ task_reason records.now at tasks (why_number why) }
 {
-    let priority = byte_at(records, at + 1) as u32;
-    if number == 4 {
-        return because(11, priority, 32);
-    }
-    if number == 3 {
-        if 20 * tasks < at {
-            return because(12, priority, byte_at(records, back(at, 7)) as u32);
+    let priority = u32::from(byte_at(records, at + 1));
+    match why {
+        Why::TooMany => because(Cause::OneTooMany, priority, 32),
+        Why::Order if 20 * tasks < at => {
+            let last = byte_at(records, at.saturating_sub(7));
+            because(Cause::AfterUse, priority, u32::from(last))
         }
-        return because(13, priority, byte_at(records, back(at, 19)) as u32);
+        Why::Order => {
+            let last = byte_at(records, at.saturating_sub(19));
+            because(Cause::NotBelow, priority, u32::from(last))
+        }
+        _ => range_reason(table::task_at(records, at)),
     }
-    range_reason(table::task_at(records, at))
 }
 
-// Why the use record that starts at a place is refused with a number, after so many tasks.
-fn use_reason(records: &[u8], at: usize, tasks: usize, number: u8) -> Reason
+// Why the use record that starts at a place is refused, after so many tasks.
+#[tactic(auto, unfolding(crate::specs::Reasons::use_reason))]
+fn use_reason(records: &[u8], at: usize, tasks: usize, why: Why) -> Reason
     requires { (at ≤ 4800) × (20 * tasks ≤ length records.now) }
-    ensures { result ≡ use_reason records.now at tasks number }
+    ensures { reason_of result ≡ use_reason records.now at tasks (why_number why) }
 {
     let priority = byte_at(records, at + 1);
     let user = table::place_of(records, tasks, 0, priority);
-    if number == 6 {
-        return because(16, priority as u32, table::word_at(records, 20 * user + 4));
+    let told = u32::from(priority);
+    match why {
+        Why::Sections => because(Cause::PastRun, told, table::word_at(records, 20 * user + 4)),
+        _ if tasks <= user => because(Cause::OfNoTask, told, told),
+        _ => because(Cause::OutOfOrder, u32::from(byte_at(records, at + 2)), told),
     }
-    if tasks <= user {
-        return because(14, priority as u32, priority as u32);
-    }
-    because(15, byte_at(records, at + 2) as u32, priority as u32)
 }
 
-// Why the record that starts at a place is refused with a number, after so many tasks.
-pub fn reason_at(records: &[u8], at: usize, tasks: usize, number: u8) -> Reason
+// Why the record that starts at a place is refused, after so many tasks.
+pub fn reason_at(records: &[u8], at: usize, tasks: usize, why: Why) -> Reason
     requires { (at ≤ 4800) × (20 * tasks ≤ length records.now) }
-    ensures { result ≡ reason_at records.now at tasks number }
+    ensures { reason_of result ≡ reason_at records.now at tasks (why_number why) }
 {
-    if byte_at(records, at) == 1 {
-        return task_reason(records, at, tasks, number);
+    if byte_at(records, at) == Kind::Task.number() {
+        task_reason(records, at, tasks, why)
+    } else {
+        use_reason(records, at, tasks, why)
     }
-    use_reason(records, at, tasks, number)
 }

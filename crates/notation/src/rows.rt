@@ -1,176 +1,164 @@
 // What a line of text says.
-ghost use Rattle.std.specs.Prelude.{◌≡◌, ◌+◌, ◌*◌, ◌-◌, ◌≤◌, ◌<◌, length};
-ghost use Rattle.notation.specs.Columns.{value_bytes};
+ghost use Rattle.std.specs.Prelude.{◌≡◌, ◌+◌, ◌*◌, ◌≤◌, length};
+ghost use Rattle.notation.specs.Columns.{column_number, value_bytes};
+ghost use Rattle.notation.specs.Kinds.{first_column, column_count};
 ghost use Rattle.words.specs.Finding.{word_start, is_number};
 ghost use Rattle.words.specs.Writing.{Put};
-ghost use Rattle.notation.specs.Rows.{no_cell, number_at, cell_at, row_end, cells_from, row_at};
-ghost use Rattle.notation.specs.Taking.{Within, taken_by, TakenPut};
+ghost use Rattle.notation.specs.Rows.{number_at, cell_at, row_end, cells_from, row_at};
+ghost use Rattle.notation.specs.Taking.{Found, CellRead, RowRead, TakenPut};
 
-use crate::columns::{is_name, is_wide, least, most};
-use words::run_end;
+use crate::causes::Cause;
+use crate::columns::Column;
+use crate::kinds::Kind;
+use words::{Class, run_end, same};
 
-// A column's value and where it ends, or the cause of a fault and the word at fault.
+// A column's value, and the place where it ends.
 #[derive(Clone, Copy)]
 pub struct Cell {
-    pub cause: u8,
-    pub at: usize,
     pub end: usize,
     pub value: u32,
 }
 
-// What was taken of a line: 0 or the cause of its fault, with the column and the word at fault; and where the bytes of its record end.
+// What is wrong with a line: the cause, with the column and the word at fault.
+#[derive(Clone, Copy)]
+pub struct Misfit {
+    pub cause: Cause,
+    pub column: Option<Column>,
+    pub at: usize,
+}
+
+impl Misfit {
+    // A cause, with the column and the word that it speaks of.
+    fn of(cause: Cause, column: Option<Column>, at: usize) -> Misfit
+        ensures { result ≡ record { cause = cause; column = column; at = at } }
+    {
+        Misfit { cause, column, at }
+    }
+}
+
+// What was taken of a line without fault: the place where its words end, and where the bytes of its record end.
 #[derive(Clone, Copy)]
 pub struct Taken {
-    pub cause: u8,
-    pub column: u8,
     pub at: usize,
     pub count: usize,
 }
 
-// No value: the cause, and the word at fault.
-fn no_cell(cause: u8, at: usize) -> Cell
-    ensures { result ≡ no_cell cause at }
+// Where a word stands; an empty one where the line ends.
+#[derive(Clone, Copy)]
+struct Span {
+    start: usize,
+    end: usize,
+}
+
+// The next word of a line, from a place on.
+fn next_word(text: &[u8], at: usize) -> Span
+    requires { at ≤ length text.now }
+    ensures { Found text.now at result.start result.end }
 {
-    Cell {
-        cause,
-        at,
-        end: at,
-        value: 0,
-    }
+    let start = run_end(text, at, Class::Blank);
+    let end = run_end(text, start, Class::Word);
+    Span { start, end }
 }
 
 // Whether a word is a number.
 fn is_number(word: &[u8]) -> bool
     ensures { result ≡ is_number word.now }
 {
-    if word.len() == 0 {
-        return false;
-    }
-    run_end(word, 0, 3) == word.len()
+    !word.is_empty() && run_end(word, 0, Class::Digit) == word.len()
 }
 
 // The value of a column, from a place on.
-fn number_at(text: &[u8], at: usize, column: u8) -> Cell
+fn number_at(text: &[u8], at: usize, column: Column) -> Result<Cell, Misfit>
     requires { at ≤ length text.now }
-    ensures { (result ≡ number_at text.now at column) × Within result text.now }
+    ensures { CellRead text.now (column_number column) (number_at text.now at (column_number column)) result }
 {
-    let start = run_end(text, at, 0);
-    let end = run_end(text, start, 1);
-    if !is_number(&text[start..end]) {
-        return no_cell(3, start);
+    let Span { start, end } = next_word(text, at);
+    let word = &text[start..end];
+    if !is_number(word) {
+        return Err(Misfit::of(Cause::NoNumber, Some(column), start));
     }
-    let value = words::value(&text[start..end]);
-    if value < least(column) {
-        return no_cell(4, start);
+    let value = words::value(word);
+    if value < column.least() {
+        return Err(Misfit::of(Cause::BelowRange, Some(column), start));
     }
-    if most(column) < value {
-        return no_cell(5, start);
+    if column.most() < value {
+        return Err(Misfit::of(Cause::AboveRange, Some(column), start));
     }
-    Cell {
-        cause: 0,
-        at: start,
-        end,
-        value,
-    }
+    Ok(Cell { end, value })
 }
 
 // The name of a column and its value, from a place on.
-fn cell_at(text: &[u8], at: usize, column: u8) -> Cell
+fn cell_at(text: &[u8], at: usize, column: Column) -> Result<Cell, Misfit>
     requires { at ≤ length text.now }
-    ensures { (result ≡ cell_at text.now at column) × Within result text.now }
+    ensures { CellRead text.now (column_number column) (cell_at text.now at (column_number column)) result }
 {
-    let start = run_end(text, at, 0);
-    let end = run_end(text, start, 1);
-    if is_name(&text[start..end], column) {
-        return number_at(text, end, column);
+    let Span { start, end } = next_word(text, at);
+    if !same(&text[start..end], column.name()) {
+        return Err(Misfit::of(Cause::OtherName, Some(column), start));
     }
-    no_cell(2, start)
+    number_at(text, end, column)
 }
 
 // Puts a value of a column as bytes, and answers the place after them.
-fn put_value(records: &mut [u8], at: usize, column: u8, value: u32) -> usize
+fn put_value(records: &mut [u8], at: usize, column: Column, value: u32) -> usize
     requires { at + 4 ≤ length records.old }
-    ensures put { Put records.old at (value_bytes column value) records.new result }
+    ensures put { Put records.old at (value_bytes (column_number column) value) records.new result }
     ensures upper_bound { result ≤ at + 4 }
 {
-    if is_wide(column) {
+    if column.is_wide() {
         held::put_word(records, at, value);
-        return at + 4;
+        at + 4
+    } else {
+        records[at] = (value % 256) as u8;
+        at + 1
     }
-    records[at] = (value % 256) as u8;
-    at + 1
 }
 
-// The end of a line.
-fn row_end(text: &[u8], at: usize, count: usize) -> Taken
+// The end of a line, where no word is left.
+fn row_end(text: &[u8], at: usize, count: usize) -> Result<Taken, Misfit>
     requires { at ≤ length text.now }
-    ensures { (result ≡ taken_by (row_end text.now (word_start text.now at)) count) × (result.at ≤ length text.now) }
+    ensures { RowRead text.now (row_end text.now (word_start text.now at)) count result }
 {
-    let start = run_end(text, at, 0);
-    let end = run_end(text, start, 1);
-    let cause = if start == end { 0 } else { 6 };
-    Taken {
-        cause,
-        column: 11,
-        at: start,
-        count,
+    let Span { start, end } = next_word(text, at);
+    if start < end {
+        return Err(Misfit::of(Cause::MoreWords, None, start));
     }
+    Ok(Taken { at: start, count })
 }
 
-// Puts the values of the columns from one to another as bytes, as far as the line has them.
-fn put_cells(text: &[u8], at: usize, first: u8, last: u8, records: &mut [u8], count: usize) -> Taken
-    requires { (at ≤ length text.now) × (first ≤ last) × (last ≤ 11) × (count + 4 * (last - first) ≤ length records.old) }
-    ensures taken_put { TakenPut text.now (cells_from (last - first) text.now at first) records.old count records.new result }
-    ensures count_bound { result.count ≤ count + 4 * (last - first) }
+// Puts the values of a kind's columns as bytes, as far as the line has them.
+fn put_cells(
+    text: &[u8],
+    at: usize,
+    kind: Kind,
+    records: &mut [u8],
+    count: usize,
+) -> Result<Taken, Misfit>
+    requires { (at ≤ length text.now) × (count + 4 * column_count kind ≤ length records.old) }
+    ensures { TakenPut text.now (cells_from (column_count kind) text.now at (first_column kind)) records.old count records.new result }
 {
-    let mut column = first;
     let mut place = at;
     let mut end = count;
-    while column < last {
-        let cell = cell_at(text, place, column);
-        if cell.cause != 0 {
-            return Taken {
-                cause: cell.cause,
-                column,
-                at: cell.at,
-                count: end,
-            };
-        }
-        end = put_value(records, end, column, cell.value);
+    for column in kind.columns() {
+        let cell = cell_at(text, place, *column)?;
+        end = put_value(records, end, *column, cell.value);
         place = cell.end;
-        column += 1;
     }
     row_end(text, place, end)
 }
 
 // Puts the record of the line from a place on, as far as the line has it.
-pub fn put_row(text: &[u8], at: usize, records: &mut [u8], count: usize) -> Taken
+pub fn put_row(text: &[u8], at: usize, records: &mut [u8], count: usize) -> Result<Taken, Misfit>
     requires { (at ≤ length text.now) × (count + 29 ≤ length records.old) }
-    ensures taken_put { TakenPut text.now (row_at text.now at) records.old count records.new result }
-    ensures count_bound { result.count ≤ count + 29 }
+    ensures { TakenPut text.now (row_at text.now at) records.old count records.new result }
 {
-    let start = run_end(text, at, 0);
-    let end = run_end(text, start, 1);
+    let Span { start, end } = next_word(text, at);
     if start == end {
-        return Taken {
-            cause: 0,
-            column: 11,
-            at: start,
-            count,
-        };
+        return Ok(Taken { at: start, count });
     }
-    if is_name(&text[start..end], 0) {
-        records[count] = 1;
-        return put_cells(text, start, 0, 7, records, count + 1);
-    }
-    if is_name(&text[start..end], 7) {
-        records[count] = 2;
-        return put_cells(text, start, 7, 11, records, count + 1);
-    }
-    Taken {
-        cause: 1,
-        column: 11,
-        at: start,
-        count,
-    }
+    let Some(kind) = Kind::named(&text[start..end]) else {
+        return Err(Misfit::of(Cause::FirstWord, None, start));
+    };
+    records[count] = kind.number();
+    put_cells(text, start, kind, records, count + 1)
 }

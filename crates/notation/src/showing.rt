@@ -1,106 +1,96 @@
 // The text of a table, in columns.
-ghost use Rattle.std.specs.Prelude.{◌+◌, ◌*◌, ◌-◌, ◌≤◌, length};
-ghost use Rattle.words.specs.Writing.{Put};
-ghost use Rattle.notation.specs.Showing.{padded, spacing, cell_text, row_text, rows_text, table_text};
+ghost use Rattle.std.specs.Prelude.{◌≡◌, ◌*◌, ◌≤◌, length};
+ghost use Rattle.words.specs.Pages.{room, Puts};
+ghost use Rattle.notation.specs.Columns.{column_number};
+ghost use Rattle.notation.specs.Kinds.{first_column, column_count, record_size};
+ghost use Rattle.notation.specs.Showing.{padded, spacing, cell_text, row_text, rows_text, table_text, shown};
 
-use crate::columns::{field_at, put_name, width};
-use words::put_text;
+use crate::columns::Column;
+use crate::kinds::Kind;
+use table::Shape;
+use words::Page;
 
-// Puts a value, right under right.
-fn put_padded(out: &mut [u8], at: usize, column: u8, value: u32) -> usize
-    requires { at + 28 ≤ length out.old }
-    ensures put { Put out.old at (padded column value) out.new result }
-    ensures upper_bound { result ≤ at + 28 }
-{
-    let mut digits = [0u8; 20];
-    let count = io::decimal(value as u64, &mut digits);
-    let columns = width(column);
-    let missing = if count < columns { columns - count } else { 0 };
-    let spaces = [32u8; 8];
-    let end = put_text(out, at, &spaces[..missing + 1]);
-    put_text(out, end, &digits[..count])
+// As many spaces as a value is ever laid out with.
+const SPACES: &[u8] = b"        ";
+
+impl Column {
+    // What stands after a value.
+    fn spacing(self) -> &'static [u8]
+        ensures { result.now ≡ spacing (column_number self) }
+    {
+        match self {
+            Column::Period | Column::Length => b"\n",
+            _ => b"  ",
+        }
+    }
 }
 
-// Puts what stands after a value.
-fn put_spacing(out: &mut [u8], at: usize, column: u8) -> usize
-    requires { at + 2 ≤ length out.old }
-    ensures put { Put out.old at (spacing column) out.new result }
-    ensures upper_bound { result ≤ at + 2 }
+// Puts a value, right under right.
+fn put_padded(page: &mut Page, column: Column, value: u32)
+    requires { length (padded (column_number column) value) ≤ room page.old }
+    ensures { Puts page.old (padded (column_number column) value) page.new }
 {
-    match column {
-        6 | 10 => put_text(out, at, b"\n"),
-        _ => put_text(out, at, b"  "),
-    }
+    let mut digits = [0; 20];
+    let count = io::decimal(u64::from(value), &mut digits);
+    let missing = column.width().saturating_sub(count);
+    page.text(&SPACES[..missing + 1]);
+    page.text(&digits[..count]);
 }
 
 // Puts a column's name and value.
-fn put_cell(out: &mut [u8], at: usize, column: u8, value: u32) -> usize
-    requires { at + 38 ≤ length out.old }
-    ensures put { Put out.old at (cell_text column value) out.new result }
-    ensures upper_bound { result ≤ at + 38 }
+#[tactic(auto, using(words::proofs::Pages::pages), unfolding(crate::specs::Showing::cell_text))]
+fn put_cell(page: &mut Page, column: Column, value: u32)
+    requires { length (cell_text (column_number column) value) ≤ room page.old }
+    ensures { Puts page.old (cell_text (column_number column) value) page.new }
 {
-    let named = put_name(out, at, column);
-    let valued = put_padded(out, named, column, value);
-    put_spacing(out, valued, column)
+    page.text(column.name());
+    put_padded(page, column, value);
+    page.text(column.spacing());
 }
 
-// Puts the line of the record that starts at a place, of so many columns from one on.
-fn put_row(out: &mut [u8], at: usize, bytes: &[u8], column: u8, columns: u8, place: usize) -> usize
-    requires { (column ≤ 7) × (columns ≤ 7) × (place ≤ 20000) × (at + 38 * columns ≤ length out.old) }
-    ensures put { Put out.old at (row_text bytes.now column columns place) out.new result }
-    ensures upper_bound { result ≤ at + 38 * columns }
+// Puts the line of the record of a kind that starts at a place.
+fn put_row(page: &mut Page, bytes: &[u8], kind: Kind, place: usize)
+    requires { (place ≤ 20000) × (38 * column_count kind ≤ room page.old) }
+    ensures { Puts page.old (row_text bytes.now (first_column kind) (column_count kind) place) page.new }
 {
-    let mut end = at;
-    let mut i: u8 = 0;
-    while i < columns {
-        let value = field_at(bytes, place, column + i);
-        end = put_cell(out, end, column + i, value);
-        i += 1;
+    for column in kind.columns() {
+        put_cell(page, *column, column.field_at(bytes, place));
     }
-    end
 }
 
-// Puts the lines of so many records, which start at a place and have a size.
-fn put_rows(
-    out: &mut [u8],
-    at: usize,
-    bytes: &[u8],
-    column: u8,
-    columns: u8,
-    from: usize,
-    size: usize,
-    count: usize,
-) -> usize
-    requires { (column ≤ 7) × (columns ≤ 7) × (from ≤ 640) × (size ≤ 20) × (count ≤ 512) × (at + 266 * count ≤ length out.old) }
-    ensures put { Put out.old at (rows_text bytes.now column columns from size count) out.new result }
-    ensures upper_bound { result ≤ at + 266 * count }
+// Puts the lines of so many records of a kind, from a place on.
+fn put_rows(page: &mut Page, bytes: &[u8], kind: Kind, from: usize, count: usize)
+    requires { (from ≤ 640) × (count ≤ 512) × (266 * count ≤ room page.old) }
+    ensures { Puts page.old (rows_text bytes.now (first_column kind) (column_count kind) from (record_size kind) count) page.new }
 {
-    let mut end = at;
-    let mut place = from;
-    let mut i = 0;
-    while i < count {
-        end = put_row(out, end, bytes, column, columns, place);
-        place += size;
-        i += 1;
+    for i in 0..count {
+        put_row(page, bytes, kind, from + kind.size() * i);
     }
-    end
 }
 
-// Puts the text of an accepted table with so many tasks and uses, which start at a place.
-pub fn put_table(out: &mut [u8], bytes: &[u8], tasks: usize, from: usize, uses: usize) -> usize
-    requires { (tasks ≤ 32) × (from ≤ 640) × (uses ≤ 512) × (262144 ≤ length out.old) }
-    ensures { Put out.old 0 (table_text bytes.now tasks from uses) out.new result }
+// Puts the text of an accepted table.
+fn put_table(page: &mut Page, bytes: &[u8], shape: Shape)
+    requires { (shape.tasks ≤ 32) × (shape.uses_at ≤ 640) × (shape.uses ≤ 512) × (262144 ≤ room page.old) }
+    ensures { Puts page.old (table_text bytes.now shape.tasks shape.uses_at shape.uses) page.new }
 {
-    let first = put_text(
-        out,
-        0,
+    page.text(
         b"# A task table: first the tasks, by falling priority, then their uses of resources, in the same order.\n",
     );
-    let headed = put_text(
-        out,
-        first,
+    page.text(
         b"# run, sleep, deadline, period and length are times, all in one unit; docs/NOTATION.md has the ranges.\n",
     );
-    let listed = put_rows(out, headed, bytes, 0, 7, 0, 20, tasks);
-    put_rows(out, listed, bytes, 7, 4, from, 8, uses)
+    put_rows(page, bytes, Kind::Task, 0, shape.tasks);
+    put_rows(page, bytes, Kind::Use, shape.uses_at, shape.uses);
+}
+
+// Puts the text of a table, or the line of its refusal.
+#[tactic(auto, using(words::proofs::Pages::pages, words::proofs::Words::refusal_few), unfolding(crate::specs::Showing::shown))]
+pub fn put_shown(page: &mut Page, bytes: &[u8])
+    requires { 262144 ≤ room page.old }
+    ensures { Puts page.old (shown bytes.now) page.new }
+{
+    match table::read(bytes) {
+        Ok(shape) => put_table(page, bytes, shape),
+        Err(refusal) => page.refusal(refusal),
+    }
 }

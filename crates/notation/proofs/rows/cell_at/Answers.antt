@@ -1,21 +1,30 @@
 -- What is left of `notation::rows::cell_at`.
-use mathlib.Core.Path.{sym, ◌∙◌}
-use Rattle.notation.proofs.Rowing.{Found, found_word, none_within, cell_named, cell_other}
+use Prim.Native.Nat.{◌-◌}
+use mathlib.Core.Path.{◌≡◌, sym, ap, subst, ◌∙◌}
+use lib.ListN.{take, drop}
+use Rattle.words.specs.Finding.{same}
+use Rattle.notation.specs.declared.causes.Cause.TheVariants.{OtherName}
+use Rattle.notation.specs.Columns.{column_number, name}
+use Rattle.notation.specs.Rows.{Cell}
+use Rattle.notation.specs.Taking.{CellRead}
+use Rattle.notation.proofs.Rowing.{cell_misfit, cell_named, cell_other}
 use Rattle.notation.proofs.rows.cell_at.Goals as goal
-use Rattle.notation.proofs.rows.cell_at.Goals.{After-run_end-end}
+use Rattle.notation.proofs.rows.cell_at.Goals.{After-same}
 
--- the word that the two runs find
-found : (c : After-run_end-end) → Found c.args.text.now c.args.at c.run_end-start.result c.run_end-end.result
-found c = found_word _ _ _ _ c.requires (c.run_end-start.ensures.value, c.run_end-start.ensures.upper_bound) (c.run_end-end.ensures.value, c.run_end-end.ensures.upper_bound)
+-- what is tested is whether it is the column's name
+tested : (c : After-same) → let b = c.next_word-start.result.start in
+    c.same.result ≡ same (take (c.next_word-start.result.end - b) (drop b c.args.text.now)) (name (column_number c.args.column))
+tested c = let b = c.next_word-start.result.start in c.same.ensures ∙ ap (same (take (c.next_word-start.result.end - b) (drop b c.args.text.now))) c.name.ensures.value
 
-pub returns-then-is_name : goal.returns-then-is_name
-returns-then-is_name c =
-    let word = found (goal.at.returns-then-is_name c).After-run_end-end in
-    let column = c.args.column in
-    (c.number_at.ensures.0 ∙ cell_named word column (sym c.is_name.ensures ∙ c.if-is_name.true), c.number_at.ensures.1)
+pub returns-then-not-same : goal.returns-then-not-same
+returns-then-not-same c =
+    let word = c.next_word-start.ensures in
+    let other = sym (tested (goal.at.returns-then-not-same c).After-same) ∙ c.if-not-same.true in
+    cell_misfit OtherName c.args.column _ (cell_other word (column_number c.args.column) other) c.of.ensures word.first
 
 pub returns : goal.returns
 returns c =
-    let word = found (goal.at.returns c).After-run_end-end in
-    let column = c.args.column in
-    (c.no_cell.ensures ∙ cell_other word column (sym c.is_name.ensures ∙ c.if-is_name.false), none_within c.no_cell.ensures word.first)
+    let word = c.next_word-start.ensures in
+    let named = sym (tested (goal.at.returns c).After-same) ∙ c.if-not-same.false in
+    subst (λ (x : Cell). CellRead c.args.text.now (column_number c.args.column) x c.number_at.result) (cell_named word (column_number c.args.column) named)
+    c.number_at.ensures

@@ -1,31 +1,31 @@
 -- What is left of `notation::rows::put_cells`.
-use mathlib.Core.Path.{ap}
 use native.Mathlib.Omega.{arith}
-use Rattle.notation.specs.declared.rows.Taken.{Taken}
+use Rattle.std.proofs.lemmas.Result.{err_from_is_err_and}
+use Rattle.notation.specs.Kinds.{first_column, column_count}
+use Rattle.notation.proofs.Views.{cause_some, columns_many, number_there}
 use Rattle.notation.proofs.Rowing.{filled_more, filled_fault, filled_end}
 use Rattle.notation.proofs.rows.put_cells.Goals as goal
 
-pub returns-then-cell-ne0 : goal.returns-then-cell-ne0
-returns-then-cell-ne0 c =
-    let here = c.loop-column.invariant in
-    let cell = c.cell_at-cell in
-    record {
-      taken_put = filled_fault here c.requires.3 c.cell_at-cell.result c.loop-column-test.true c.cell_at-cell.ensures.0 c.if-cell-ne0.true c.cell_at-cell.ensures.1;
-      count_bound = omega (arith, here.most, here.low, here.high);
-    }
+pub returns-in_err-cell : goal.returns-in_err-cell
+returns-in_err-cell c =
+    let first = first_column c.args.kind in
+    let p = err_from_is_err_and c.from_residual.result c.from_residual.ensures.1 in
+    let many = columns_many _ first (column_count c.args.kind) c.columns-column-items.ensures in
+    let there = number_there _ first (column_count c.args.kind) c.loop-column.column-index _ c.columns-column-items.ensures c.loop-column-test.true in
+    let m = c.in_err-cell.field-0.0 in
+    let wrong = c.in_err-cell.ensures in
+    rw (p.1, p.2) (filled_fault c.loop-column.invariant c.requires.1 _ there m (omega (arith, many, c.loop-column-test.true)) (λ z. omega (arith, cause_some m.cause, wrong.cause)) wrong)
 
 pub loop-column-preserved : goal.loop-column-preserved
 loop-column-preserved c =
-    let cell = c.cell_at-cell in
+    let first = first_column c.args.kind in
+    let many = columns_many _ first (column_count c.args.kind) c.columns-column-items.ensures in
+    let there = number_there _ first (column_count c.args.kind) c.loop-column.column-index _ c.columns-column-items.ensures c.loop-column-test.true in
     let put = c.put_value-end in
-    filled_more c.loop-column.invariant c.requires.3 c.cell_at-cell.result put.new.records put.result c.loop-column-test.true c.cell_at-cell.ensures.0 c.if-cell-ne0.false c.cell_at-cell.ensures.1
-    put.ensures.put put.ensures.upper_bound c.records-1.given
+    filled_more c.loop-column.invariant c.requires.1 _ there c.in_ok-cell.cell put.new.records put.result
+    (omega (arith, many, c.loop-column-test.true)) c.in_ok-cell.ensures put.ensures.put put.ensures.upper_bound
 
 pub returns : goal.returns
 returns c =
-    let here = c.loop-column.invariant in
-    let end = c.row_end in
-    record {
-      taken_put = filled_end here c.requires.3 end.result c.loop-column-test.false end.ensures.0 end.ensures.1;
-      count_bound = omega (arith, here.most, here.low, here.high, ap (λ (x : Taken). x.count) end.ensures.0);
-    }
+    let many = columns_many _ (first_column c.args.kind) (column_count c.args.kind) c.columns-column-items.ensures in
+    filled_end c.loop-column.invariant c.requires.1 c.row_end.result (omega (arith, many, c.loop-column-test.false)) c.row_end.ensures

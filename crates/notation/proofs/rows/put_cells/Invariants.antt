@@ -1,10 +1,7 @@
 -- The loops of `notation::rows::put_cells`.
-use Prim.Native.Nat.{◌-◌}
+use Rattle.notation.specs.Kinds.{first_column, column_count}
 use Rattle.notation.proofs.Rowing.{Filled}
 use Rattle.notation.proofs.rows.put_cells.Given as goal
 
 abbrev pub invariant-loop-column : goal.invariant-loop-column
-invariant-loop-column l = Filled l.text l.at l.first l.last l.initial.records l.count l.records l.column l.place l.end
-
-abbrev pub decreases-loop-column : goal.decreases-loop-column
-decreases-loop-column l = l.last - l.column
+invariant-loop-column l = Filled l.text l.at (first_column l.fn.kind) (column_count l.fn.kind) l.initial.records l.count l.records l.column-index l.place l.end

@@ -1,43 +1,28 @@
 -- What is left of `notation::rows::put_row`.
-use mathlib.Core.Path.{sym, ◌∙◌}
+use Prim.Native.Nat.{ℕ, ◌+◌}
+use mathlib.Core.Path.{sym, subst, ◌∙◌}
 use native.Mathlib.Omega.{arith}
-use Rattle.notation.proofs.Rowing.{Found, found_word, row_none, row_task, row_use, row_other}
+use lib.ListN.{set}
+use Rattle.notation.specs.Kinds.{first_column, column_count}
+use Rattle.notation.specs.Rows.{cells_from}
+use Rattle.notation.specs.Taking.{TakenPut}
+use Rattle.notation.proofs.Rowing.{row_none, row_kind, row_other}
 use Rattle.notation.proofs.rows.put_row.Goals as goal
-use Rattle.notation.proofs.rows.put_row.Goals.{After-run_end-end}
-
--- the word that the two runs find
-found : (c : After-run_end-end) → Found c.args.text.now c.args.at c.run_end-start.result c.run_end-end.result
-found c = found_word _ _ _ _ c.requires.0 (c.run_end-start.ensures.value, c.run_end-start.ensures.upper_bound) (c.run_end-end.ensures.value, c.run_end-end.ensures.upper_bound)
 
 pub returns-then-start-end : goal.returns-then-start-end
-returns-then-start-end c =
-    record {
-      taken_put = row_none (found (goal.at.returns-then-start-end c).After-run_end-end) c.args.records.now c.args.count c.if-start-end.true;
-      count_bound = omega arith;
-    }
+returns-then-start-end c = row_none c.next_word-start.ensures c.args.records.now c.args.count c.if-start-end.true
 
-pub returns-then-is_name : goal.returns-then-is_name
-returns-then-is_name c =
-    let put = c.put_cells in record {
-      taken_put = row_task (found (goal.at.returns-then-is_name c).After-run_end-end) c.args.records.now c.args.count put.new.records put.result
-          c.if-start-end.false (sym c.is_name.ensures ∙ c.if-is_name.true) (omega (arith, c.requires.1)) put.ensures.taken_put;
-      count_bound = omega (arith, put.ensures.count_bound);
-    }
-
-pub returns-then-is_name-2 : goal.returns-then-is_name-2
-returns-then-is_name-2 c =
-    let put = c.put_cells-then-is_name-2 in record {
-      taken_put = row_use (found (goal.at.returns-then-is_name-2 c).After-run_end-end) c.args.records.now c.args.count put.new.records put.result
-          c.if-start-end.false (sym c.is_name.ensures ∙ c.if-is_name.false)
-          (sym c.is_name-2.ensures ∙ c.if-is_name-2.true) (omega (arith, c.requires.1)) put.ensures.taken_put;
-      count_bound = omega (arith, put.ensures.count_bound);
-    }
+pub returns-in_default : goal.returns-in_default
+returns-in_default c =
+    rw c.of.ensures (row_other c.next_word-start.ensures c.args.records.now c.args.count c.if-start-end.false (sym c.named.ensures ∙ c.in_default.is))
 
 pub returns : goal.returns
 returns c =
-    record {
-      taken_put = row_other (found (goal.at.returns c).After-run_end-end) c.args.records.now c.args.count c.if-start-end.false
-          (sym c.is_name.ensures ∙ c.if-is_name.false)
-          (sym c.is_name-2.ensures ∙ c.if-is_name-2.false);
-      count_bound = omega arith;
-    }
+    let kind = c.in-Some.kind in
+    let text = c.args.text.now in
+    let count = c.args.count in
+    let put = c.put_cells in
+    row_kind c.next_word-start.ensures c.args.records.now count kind put.new.records put.result c.if-start-end.false
+    (sym c.named.ensures ∙ c.in-Some.is) (omega (arith, c.requires.1))
+    (subst (λ (x : ℕ). TakenPut text (cells_from (column_count kind) text c.next_word-start.result.start (first_column kind)) (set c.args.records.now count x) (count + 1) put.new.records put.result)
+    c.number.ensures put.ensures)

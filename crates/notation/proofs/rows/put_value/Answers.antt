@@ -1,19 +1,20 @@
 -- What is left of `notation::rows::put_value`.
 use mathlib.Core.Path.{sym, ◌∙◌}
 use native.Mathlib.Omega.{arith}
+use Rattle.notation.specs.Columns.{column_number}
 use Rattle.notation.proofs.Rowing.{put_wide, put_narrow}
 use Rattle.notation.proofs.rows.put_value.Goals as goal
 
 pub returns-then-is_wide : goal.returns-then-is_wide
 returns-then-is_wide c =
     record {
-      put = put_wide c.args.records.now c.args.at c.args.column c.args.value _ c.requires (sym c.is_wide.ensures ∙ c.if-is_wide.true) c.put_word.ensures;
+      put = put_wide c.args.records.now c.args.at (column_number c.args.column) c.args.value _ c.requires (sym c.is_wide.ensures ∙ c.if-is_wide.true) c.put_word.ensures;
       upper_bound = omega arith;
     }
 
-pub returns : goal.returns
-returns c =
+pub returns-else-is_wide : goal.returns-else-is_wide
+returns-else-is_wide c =
     record {
-      put = put_narrow c.args.records.now c.args.at c.args.column c.args.value (omega (arith, c.requires)) (sym c.is_wide.ensures ∙ c.if-is_wide.false);
+      put = put_narrow c.args.records.now c.args.at (column_number c.args.column) c.args.value (omega (arith, c.requires)) (sym c.is_wide.ensures ∙ c.if-is_wide.false);
       upper_bound = omega arith;
     }

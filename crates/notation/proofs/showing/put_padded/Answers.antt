@@ -1,42 +1,46 @@
 -- What is left of `notation::showing::put_padded`.
-use Prim.Native.Nat.{◌-◌, ◌≤◌}
-use mathlib.Core.Path.{◌≡◌, ◌∙◌}
+use Prim.Native.Nat.{◌+◌}
+use mathlib.Core.Path.{◌≡◌, ap, ◌∙◌}
+use mathlib.Core.List.{◌++◌}
 use native.Mathlib.Omega.{arith}
-use lib.ListN.{length, take}
-use Rattle.words.proofs.Texts.{decimal_is, digits_most}
-use Rattle.notation.specs.Columns.{width}
-use Rattle.notation.proofs.Showings.{padded_put}
+use lib.ListN.{length, take, length-append}
+use lib.Seq.{length-take-le}
+use Rattle.words.specs.Pages.{sheet}
+use Rattle.words.specs.Text.{decimal}
+use Rattle.words.proofs.Texts.{decimal_spelled}
+use Rattle.notation.specs.Columns.{column_number}
+use Rattle.notation.specs.Showing.{padded}
+use Rattle.notation.proofs.Showings.{eight, padded_is, put_more, room_left}
 use Rattle.notation.proofs.showing.put_padded.Goals as goal
-use Rattle.notation.proofs.showing.put_padded.Goals.{then-count-columns, else-count-columns, After-width-columns, Joined-count-columns}
+use Rattle.notation.proofs.showing.put_padded.Goals.{After-saturating_sub-missing}
 
--- the digits are few
-few : (c : After-width-columns) → c.decimal-count.result ≤ 20
-few c =
-    let spelled = c.decimal-count in
-    digits_most spelled.result c.args.value (omega (arith, c.ranges)) spelled.ensures.len
+-- the spaces and the digits are the value as it is laid out
+spelled : (c : After-saturating_sub-missing)
+    → take (c.saturating_sub-missing.result + 1) eight ++ take c.decimal-count.result c.decimal-count.new.out ≡ padded (column_number c.args.column) c.args.value
+spelled c =
+    let count = c.decimal-count in
+    let long = length-take-le count.result count.new.out (omega (arith, count.array_long)) in
+    padded_is (column_number c.args.column) c.args.value c.saturating_sub-missing.result (take count.result count.new.out)
+    (count.ensures.digits ∙ decimal_spelled count.result c.from.result (omega (arith, c.ranges, c.from.ensures)) count.ensures.len ∙ ap decimal c.from.ensures)
+    (omega (arith, c.saturating_sub-missing.ensures, c.width.ensures.0, long)) (omega (arith, c.saturating_sub-missing.ensures, c.width.ensures.1))
 
--- what the digits lack of the column's width is put as spaces
-missing : (c : Joined-count-columns) → c.if-count-columns.missing
-    ≡ width c.args.column - length (take c.decimal-count.result c.decimal-count.new.out)
-missing c =
-    let spelled = c.decimal-count in
-    let wide = c.width-columns in
-    elim c.if-count-columns.branch [
-      | then-count-columns w ↦ omega (arith, spelled.ensures.in_bounds.1, wide.ensures.0)
-      | else-count-columns w ↦ omega (arith, spelled.ensures.in_bounds.1, wide.ensures.0)
-    ]
+pub text-requires : goal.text-requires
+text-requires c =
+    let spaces = take (c.saturating_sub-missing.result + 1) eight in
+    let digits = take c.decimal-count.result c.decimal-count.new.out in
+    omega (arith, c.requires, ap length (spelled (goal.at.text-requires c).After-saturating_sub-missing), length-append spaces digits)
 
--- there are seven of them at most
-seven : (c : Joined-count-columns) → c.if-count-columns.missing ≤ 7
-seven c = omega (arith, missing c, c.width-columns.ensures.0, c.width-columns.ensures.1)
+pub text-requires-2 : goal.text-requires-2
+text-requires-2 c =
+    let spaces = take (c.saturating_sub-missing.result + 1) eight in
+    let digits = take c.decimal-count.result c.decimal-count.new.out in
+    omega (
+      arith,
+      c.requires,
+      ap length (spelled (goal.at.text-requires-2 c).After-saturating_sub-missing),
+      length-append spaces digits,
+      room_left (sheet c.args.page.now) (sheet c.text.new.self) spaces c.text.ensures,
+    )
 
 pub returns : goal.returns
-returns c =
-    let spelled = c.decimal-count in
-    let spaces = c.put_text-end in
-    let number = c.put_text in
-    let both = padded_put c.args.out.now c.args.at c.args.column c.args.value c.if-count-columns.missing
-    (take spelled.result spelled.new.out) spaces.new.out number.new.out spaces.result number.result (omega (arith, c.requires))
-    (spelled.ensures.digits ∙ decimal_is spelled.result c.args.value (few (goal.at.returns c).After-width-columns) spelled.ensures.len)
-    (missing (goal.at.returns c).Joined-count-columns) (seven (goal.at.returns c).Joined-count-columns) spaces.ensures number.ensures in
-    record { put = both.0; upper_bound = both.1 }
+returns c = put_more _ (sheet c.text.new.self) _ _ _ _ c.text.ensures c.text-2.ensures (spelled (goal.at.returns c).After-saturating_sub-missing)

@@ -2,33 +2,19 @@
 use Rattle.notation.proofs.Lines.{line_judgeable, line_ready, line_fault, line_empty, line_judged}
 use Rattle.notation.proofs.stepping.line_step.Goals as goal
 
-pub returns-then-taken-ne0 : goal.returns-then-taken-ne0
-returns-then-taken-ne0 c =
-    let put-row = c.put_row-taken in
-    line_fault _ _ _ _ _ c.requires.ready put-row.ensures.count_bound put-row.ensures.taken_put c.if-taken-ne0.true
+pub returns-in-Err : goal.returns-in-Err
+returns-in-Err c = line_fault _ _ _ _ c.in-Err.misfit _ c.in-Err.ensures c.misfit.ensures
 
-pub returns-then-taken-position : goal.returns-then-taken-position
-returns-then-taken-position c =
-    let put-row = c.put_row-taken in
-    let first-test = c.if-taken-ne0 in
-    let second-test = c.if-taken-position in
-    let run-end = c.run_end in
-    line_empty _ _ _ _ _ c.requires.ready put-row.ensures.count_bound put-row.ensures.taken_put _ first-test.false second-test.true
-    run-end.ensures.value (run-end.ensures.upper_bound put-row.ensures.taken_put.within)
+pub returns-in-Ok : goal.returns-in-Ok
+returns-in-Ok c = line_empty _ _ _ _ c.in-Ok.taken c.requires.ready c.in-Ok.ensures _ c.if-taken-position.true c.past.ensures.value c.past.ensures.within
 
 pub judge-requires : goal.judge-requires
 judge-requires c =
-    let put-row = c.put_row-taken in
+    let taken = c.in-Ok.taken in
     record {
-      ready = line_ready _ _ _ _ _ c.requires.ready put-row.ensures.count_bound put-row.ensures.taken_put;
-      judgeable = line_judgeable _ _ _ _ _ c.requires.ready put-row.ensures.count_bound put-row.ensures.taken_put;
+      ready = line_ready _ _ _ _ taken c.requires.ready c.in-Ok.ensures;
+      judgeable = line_judgeable _ _ _ _ taken c.requires.ready c.in-Ok.ensures;
     }
 
-pub returns : goal.returns
-returns c =
-    let put-row = c.put_row-taken in
-    let first-test = c.if-taken-ne0 in
-    let second-test = c.if-taken-position in
-    let judge = c.judge in
-    line_judged _ _ _ _ _ c.requires.ready put-row.ensures.count_bound put-row.ensures.taken_put _ _ first-test.false second-test.false
-    judge.ensures
+pub returns-in-Ok-2 : goal.returns-in-Ok-2
+returns-in-Ok-2 c = line_judged _ _ _ _ c.in-Ok.taken c.requires.ready c.in-Ok.ensures _ _ c.if-taken-position.false c.judge.ensures

@@ -1,0 +1,187 @@
+-- What is seen by numbers loses nothing: the code's cause, column, fault and answer are found again from their numbers.
+use Prim.Native.Nat.{ℕ, ◌+◌, ◌≤◌, ◌<◌}
+use mathlib.Core.Path.{◌≡◌, refl, sym, ap, ap₂, ◌∙◌}
+use mathlib.Core.Bool.{cond}
+use mathlib.Core.List.{List, map}
+use native.Mathlib.Omega.{arith}
+use lib.Dec.{eqb}
+use lib.ListN.{length, get_or, length-map, get_or-map}
+use Rattle.std.proofs.Common.{Option, Some, None, Result, Ok, Err}
+use Rattle.std.specs.List.{range_with_len}
+use Rattle.std.proofs.lemmas.List.FromFn.{length-range_with_len, get_or-range_with_len}
+use Rattle.notation.specs.declared.causes.Cause.{Cause}
+use Rattle.notation.specs.declared.causes.Cause.TheVariants.{
+  FirstWord,
+  OtherName,
+  NoNumber,
+  BelowRange,
+  AboveRange,
+  MoreWords,
+  SettingHigh,
+  Sleepless,
+  RunHigh,
+  DeadlineHigh,
+  OneTooMany,
+  AfterUse,
+  NotBelow,
+  OfNoTask,
+  OutOfOrder,
+  PastRun,
+  NoTask,
+  TooLong,
+  NoRoom,
+}
+use Rattle.notation.specs.declared.columns.Column.{Column}
+use Rattle.notation.specs.declared.columns.Column.TheVariants.{Task, Setting, Sleeps, Run, Sleep, Deadline, Period, Use, Resource, Times, Length}
+use Rattle.notation.specs.declared.Fault.{Fault as NamedFault}
+use Rattle.notation.specs.Causes.{cause_number}
+use Rattle.notation.specs.Columns.{column_number, column_or_none}
+use Rattle.notation.specs.Numbered.{Fault, Packing, Packed, Faulty, fault_of, packing_of}
+
+-- ---- causes
+
+-- the cause that has a number
+unfoldable pub cause_of : ℕ → Cause
+cause_of n =
+    cond (eqb n 1) FirstWord
+    (cond (eqb n 2) OtherName
+    (cond (eqb n 3) NoNumber
+    (cond (eqb n 4) BelowRange
+    (cond (eqb n 5) AboveRange
+    (cond (eqb n 6) MoreWords
+    (cond (eqb n 7) SettingHigh
+    (cond (eqb n 8) Sleepless
+    (cond (eqb n 9) RunHigh
+    (cond (eqb n 10) DeadlineHigh
+    (cond (eqb n 11) OneTooMany
+    (cond (eqb n 12) AfterUse
+    (cond (eqb n 13) NotBelow
+    (cond (eqb n 14) OfNoTask
+    (cond (eqb n 15) OutOfOrder
+    (cond (eqb n 16) PastRun
+    (cond (eqb n 17) NoTask
+    (cond (eqb n 18) TooLong NoRoom)))))))))))))))))
+
+-- each cause is found again
+pub cause_again : (c : Cause) → cause_of (cause_number c) ≡ c
+unfolding cause_of
+cause_again FirstWord = refl
+cause_again OtherName = refl
+cause_again NoNumber = refl
+cause_again BelowRange = refl
+cause_again AboveRange = refl
+cause_again MoreWords = refl
+cause_again SettingHigh = refl
+cause_again Sleepless = refl
+cause_again RunHigh = refl
+cause_again DeadlineHigh = refl
+cause_again OneTooMany = refl
+cause_again AfterUse = refl
+cause_again NotBelow = refl
+cause_again OfNoTask = refl
+cause_again OutOfOrder = refl
+cause_again PastRun = refl
+cause_again NoTask = refl
+cause_again TooLong = refl
+cause_again NoRoom = refl
+
+-- no cause has the number 0
+pub cause_some : (c : Cause) → 1 ≤ cause_number c
+cause_some FirstWord = omega arith
+cause_some OtherName = omega arith
+cause_some NoNumber = omega arith
+cause_some BelowRange = omega arith
+cause_some AboveRange = omega arith
+cause_some MoreWords = omega arith
+cause_some SettingHigh = omega arith
+cause_some Sleepless = omega arith
+cause_some RunHigh = omega arith
+cause_some DeadlineHigh = omega arith
+cause_some OneTooMany = omega arith
+cause_some AfterUse = omega arith
+cause_some NotBelow = omega arith
+cause_some OfNoTask = omega arith
+cause_some OutOfOrder = omega arith
+cause_some PastRun = omega arith
+cause_some NoTask = omega arith
+cause_some TooLong = omega arith
+cause_some NoRoom = omega arith
+
+-- ---- columns
+
+-- the column that has a number, if one has
+unfoldable pub column_of : ℕ → Option Column
+column_of n =
+    cond (eqb n 0) (Some Task)
+    (cond (eqb n 1) (Some Setting)
+    (cond (eqb n 2) (Some Sleeps)
+    (cond (eqb n 3) (Some Run)
+    (cond (eqb n 4) (Some Sleep)
+    (cond (eqb n 5) (Some Deadline)
+    (cond (eqb n 6) (Some Period)
+    (cond (eqb n 7) (Some Use)
+    (cond (eqb n 8) (Some Resource)
+    (cond (eqb n 9) (Some Times)
+    (cond (eqb n 10) (Some Length) None))))))))))
+
+-- each column, and none, is found again
+pub column_again : (c : Option Column) → column_of (column_or_none c) ≡ c
+unfolding column_of
+column_again None = refl
+column_again (Some Task) = refl
+column_again (Some Setting) = refl
+column_again (Some Sleeps) = refl
+column_again (Some Run) = refl
+column_again (Some Sleep) = refl
+column_again (Some Deadline) = refl
+column_again (Some Period) = refl
+column_again (Some Use) = refl
+column_again (Some Resource) = refl
+column_again (Some Times) = refl
+column_again (Some Length) = refl
+
+-- of columns whose numbers follow each other there are as many as numbers
+pub columns_many : (columns : List Column) (first k : ℕ) → map column_number columns ≡ range_with_len first k → length columns ≡ k
+columns_many columns first k e = sym (length-map columns column_number) ∙ ap length e ∙ length-range_with_len first k
+
+-- of columns whose numbers follow each other, each has the number of its place
+pub number_there : (columns : List Column) (first k i : ℕ) (d : Column) → map column_number columns ≡ range_with_len first k → i < length columns
+    → column_number (get_or columns i d) ≡ first + i
+number_there columns first k i d e h =
+    let n : i < k = omega (arith, columns_many columns first k e) in
+    sym (get_or-map column_number columns i d) ∙ ap (λ (l : List ℕ). get_or l i (column_number d)) e ∙ get_or-range_with_len first k i (column_number d) n
+
+-- ---- faults and answers
+
+-- the code's fault that has these numbers
+unfoldable pub named : Fault → NamedFault
+named f = record {
+  line = f.line;
+  cause = cause_of f.cause;
+  column = column_of f.column;
+  at = f.at;
+  value = f.value;
+  other = f.other;
+}
+
+-- each fault is found again
+pub fault_again : (f : NamedFault) → named (fault_of f) ≡ f
+unfolding named
+fault_again f =
+    ap₂ (λ (c : Cause) (k : Option Column). record { line = f.line; cause = c; column = k; at = f.at; value = f.value; other = f.other })
+    (cause_again f.cause) (column_again f.column)
+
+-- the code's answer that is seen so
+unfoldable pub answer : Packing → Result ℕ NamedFault
+answer (Packed n) = Ok n
+answer (Faulty f) = Err (named f)
+
+-- each answer is found again
+pub packing_again : (r : Result ℕ NamedFault) → answer (packing_of r) ≡ r
+unfolding answer
+packing_again (Ok n) = refl
+packing_again (Err f) = ap Err (fault_again f)
+
+-- so two answers that are seen as one are one
+pub packing_one : (r q : Result ℕ NamedFault) → packing_of r ≡ packing_of q → r ≡ q
+packing_one r q e = sym (packing_again r) ∙ ap answer e ∙ packing_again q
