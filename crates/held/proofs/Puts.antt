@@ -1,18 +1,19 @@
 -- Records that are put into a buffer one after the other: what its front holds then.
-use Prim.Native.Nat.{ℕ, suc, ◌+◌, ◌<◌, ◌≤◌}
+use Prim.Native.Nat.{ℕ, suc, ◌+◌, ◌*◌, ◌<◌, ◌≤◌, min}
+use lib.Dec.{ltb}
 use mathlib.Core.Path.{◌≡◌, sym, ap, ◌∙◌}
 use mathlib.Core.Bool.{Bool, true, false, cond}
 use mathlib.Core.List.{List, [], ◌∷◌, ◌++◌, append_assoc, append-nil}
 use native.Mathlib.Numerals.{add-one}
-use native.Mathlib.Nat.{add-zero}
+use native.Mathlib.Nat.{add-zero, mul-le-mul_left}
 use native.Mathlib.Omega.{arith}
-use lib.ListN.{length, set, take, drop, length-append}
-use lib.Seq.{sets, sets-eq, take_at, length-take-le, take-take, take-suc-set}
+use lib.ListN.{length, get_or, set, take, drop, length-append}
+use lib.Seq.{sets, sets-eq, take_at, length-take-le, take-take, take-suc-set, get_or-take}
 use Rattle.searches.specs.Indexed.{every}
-use Rattle.searches.proofs.Indexed.{every_more}
+use Rattle.searches.proofs.Indexed.{every_more, every_same}
 use Rattle.table.specs.declared.Task.{Task}
 use Rattle.table.specs.declared.Use.{Use}
-use Rattle.held.specs.Writing.{word_bytes, task_bytes, use_bytes, all}
+use Rattle.held.specs.Writing.{word_bytes, task_bytes, use_bytes, all, records_bytes, part_bytes}
 use Rattle.held.proofs.Joined.{all_append}
 
 -- ---- the front of a buffer after a store of several bytes
@@ -86,6 +87,28 @@ put_beyond b c at n front more true e h room s =
     ap (λ (k : ℕ). take (at + k) c) s ∙ ap (take (at + length more)) e ∙ front_more b at more room ∙ ap (λ (x : List ℕ). x ++ more) h
 put_beyond b c at n front more false e h room s =
     ap (λ (k : ℕ). take (at + k) c) s ∙ ap (λ (k : ℕ). take k c) (add-zero at) ∙ ap (take at) e ∙ front_kept b at more room ∙ h ∙ sym (append-nil front)
+
+-- the records that count, and an empty one behind them, of which the front has as much as the test says
+pub put_part_lem : {A : Type 0} (e : A → List ℕ) (none : A) (size : ℕ) → ((x : A) → length (e x) ≡ size) → (b c pre : List ℕ) (xs : List A) (start first count n : ℕ)
+    → first ≡ min count (length xs)
+    → take (start + size * length (take first xs)) b ≡ pre ++ records_bytes e none (take first xs) (length (take first xs))
+    → c ≡ sets b (start + size * first) (e none) → start + size * (length xs + 1) ≤ length b
+    → n ≡ start + size * first + cond (ltb (length xs) count) size 0 → take n c ≡ pre ++ part_bytes e none (length xs) xs count
+put_part_lem e none size long b c pre xs start first count n m f h room s =
+    let test = ltb (length xs) count in
+    let few : first ≤ length xs = omega arith in
+    let most : size * first ≤ size * length xs = mul-le-mul_left size few in
+    let counted : length (take first xs) ≡ first = length-take-le first xs few in
+    let own =
+    every_same (λ (i : ℕ). get_or (take first xs) i none) (λ (i : ℕ). get_or xs i none) first 0 (λ j l. get_or-take first xs j none (omega arith)) in
+    let front : take (start + size * first) b ≡ pre ++ records_bytes e none xs (min count (length xs)) =
+    ap (λ (k : ℕ). take (start + size * k) b) (sym counted) ∙ f ∙ ap (λ (k : ℕ). pre ++ records_bytes e none (take first xs) k) counted
+    ∙ ap (λ (l : List _). pre ++ all e l) own ∙ ap (λ (k : ℕ). pre ++ records_bytes e none xs k) m in
+    let l = long none in
+    ap (λ (k : ℕ). take k c) s
+    ∙ put_beyond b c (start + size * first) (cond test size 0) (pre ++ records_bytes e none xs (min count (length xs))) (e none) test h front (omega arith)
+    (ap (λ (k : ℕ). cond test k 0) (sym l))
+    ∙ append_assoc pre (records_bytes e none xs (min count (length xs))) (cond test (e none) [])
 
 -- the end record behind the front
 pub put_end : (b : List ℕ) (at : ℕ) (front middle : List ℕ) → take at b ≡ front ++ middle → at < length b → take (at + 1) (set b at 3) ≡ front ++ (middle ++ 3 ∷ [])

@@ -29,24 +29,21 @@ unfoldable pub all : {A : Type 0} → (A → List ℕ) → List A → List ℕ
 all f [] = []
 all f (x ∷ xs) = f x ++ all f xs
 
--- the records of the first n entries
-abbrev pub tasks_bytes : List Task → ℕ → List ℕ
-tasks_bytes ts n = all task_bytes (every (λ (i : ℕ). get_or ts i no_task) n 0)
+-- the records of the first n entries of a list
+abbrev pub records_bytes : {A : Type 0} → (A → List ℕ) → A → List A → ℕ → List ℕ
+records_bytes e none xs n = all e (every (λ (i : ℕ). get_or xs i none) n 0)
 
-abbrev pub uses_bytes : List Use → ℕ → List ℕ
-uses_bytes us n = all use_bytes (every (λ (j : ℕ). get_or us j no_use) n 0)
+-- the records of those that count, and an empty one more where the count is above a limit
+abbrev pub part_bytes : {A : Type 0} → (A → List ℕ) → A → ℕ → List A → ℕ → List ℕ
+part_bytes e none limit xs count = records_bytes e none xs (min count limit) ++ cond (ltb limit count) (e none) []
 
--- one record more, where a count is above its limit
-abbrev pub beyond_by : ℕ → ℕ → List ℕ → List ℕ
-beyond_by limit count bytes = cond (ltb limit count) bytes []
-
--- the records of the tasks that count, and of the uses. A task count above 32 becomes an empty 33rd task, which the reader refuses with 4 if
--- it comes so far; a use count above 512 becomes an empty 513th use, which is of no task and so refused with 3
+-- the records of the tasks that count, and of the uses. A task count above 32 becomes an empty 33rd task, which the reader refuses as one too
+-- many if it comes so far; a use count above 512 becomes an empty 513th use, which is of no task and so refused by its order
 abbrev pub task_part : List Task → ℕ → List ℕ
-task_part ts count = tasks_bytes ts (min count 32) ++ beyond_by 32 count (task_bytes no_task)
+task_part ts count = part_bytes task_bytes no_task 32 ts count
 
 abbrev pub use_part : List Use → ℕ → List ℕ
-use_part us count = uses_bytes us (min count 512) ++ beyond_by 512 count (use_bytes no_use)
+use_part us count = part_bytes use_bytes no_use 512 us count
 
 -- the bytes of a table: its tasks, its uses and the end
 unfoldable pub encode : Table → List ℕ

@@ -8,12 +8,13 @@ ghost use Rattle.held.specs.Writing.{write_table, written, decided};
 
 mod encoder;
 mod loader;
+mod record;
 
-pub use encoder::put_word;
+pub use record::put_word;
 pub use table::{number, place};
 use table::{Refusal, Shape, Task, Use, Why};
 
-// A table of at most 32 tasks and 512 uses. Entries past the counts don't count.
+// A table of at most 32 tasks and 512 uses. Entries past the counts don't count: memory is fixed, so there is no list that grows.
 #[derive(Clone, Copy)]
 pub struct Table {
     pub tasks: [Task; 32],
@@ -34,15 +35,9 @@ pub fn load(bytes: &[u8]) -> Loaded
     ensures { result ≡ load_table bytes.now }
 {
     let reading = table::read(bytes);
-    let Ok(shape) = reading else {
-        return Loaded {
-            reading,
-            table: loader::filled(bytes, 0, 0, 0),
-        };
-    };
     Loaded {
         reading,
-        table: loader::filled(bytes, shape.tasks, shape.uses_at, shape.uses),
+        table: loader::filled(bytes, reading.unwrap_or_default()),
     }
 }
 
@@ -70,7 +65,7 @@ pub fn write(table: Table, out: &mut [u8]) -> Result<usize, Refusal>
     ensures { (result ≡ write_table table (length out.old)) × (out.new ≡ written table out.old) }
 {
     let mut bytes = [0u8; 4765];
-    let length = encoder::encode(table, &mut bytes);
+    let length = encoder::encode(&table, &mut bytes);
     let answer = decide(table::read(&bytes[..length]), length, out.len());
     let n = count(answer);
     out[..n].copy_from_slice(&bytes[..n]);

@@ -1,47 +1,35 @@
 // Filling a held table from a table's bytes.
-ghost use Rattle.std.specs.Prelude.{◌≡◌, ◌+◌, ◌*◌, ◌≤◌, ◌<◌};
-ghost use Rattle.held.specs.Loading.{tasks_of, uses_of, filled_by};
+ghost use Rattle.std.specs.Prelude.{◌≡◌, ℕ, ◌+◌, ◌*◌, ◌≤◌, ◌<◌, ◌^◌, length};
+ghost use Rattle.searches.specs.Indexed.{every};
+ghost use Rattle.held.specs.Loading.{filled_by};
 
 use crate::Table;
-use table::{Task, Use, no_task, no_use};
+use crate::record::Record;
+use table::{Shape, no_task, no_use};
 
-// The tasks, and zeros after them.
-fn load_tasks(bytes: &[u8], count: usize) -> [Task; 32]
-    requires { count ≤ 32 }
-    ensures { result ≡ tasks_of bytes.now count }
+// The records that stand one after the other from a place on, as many as there are places for them.
+fn load_all<R: Record>(bytes: &[u8], start: usize, out: &mut [R])
+    requires { start + R.SIZE * length out.old < 2 ^ 64 }
+    ensures { out.new ≡ every (λ (i : ℕ). R.read_at bytes.now (start + R.SIZE * i)) (length out.old) 0 }
 {
-    let mut out = [no_task(); 32];
-    let mut i = 0;
-    while i < count {
-        out[i] = table::task_at(bytes, 20 * i);
-        i += 1;
+    for (i, slot) in out.iter_mut().enumerate() {
+        *slot = R::read(bytes, start + R::SIZE * i);
     }
-    out
 }
 
-// The uses, which start at a place, and zeros after them.
-fn load_uses(bytes: &[u8], start: usize, count: usize) -> [Use; 512]
-    requires { (count ≤ 512) × (start ≤ 640) }
-    ensures { result ≡ uses_of bytes.now start count }
+// A table of a shape, with zeros past its counts.
+pub fn filled(bytes: &[u8], shape: Shape) -> Table
+    requires { (shape.tasks ≤ 32) × (shape.uses_at ≤ 640) × (shape.uses ≤ 512) }
+    ensures { result ≡ filled_by bytes.now shape.tasks shape.uses_at shape.uses }
 {
-    let mut out = [no_use(); 512];
-    let mut i = 0;
-    while i < count {
-        out[i] = table::use_at(bytes, start + 8 * i);
-        i += 1;
-    }
-    out
-}
-
-// A table with these counts, whose uses start at a place.
-pub fn filled(bytes: &[u8], tasks: usize, start: usize, uses: usize) -> Table
-    requires { (tasks ≤ 32) × (start ≤ 640) × (uses ≤ 512) }
-    ensures { result ≡ filled_by bytes.now tasks start uses }
-{
+    let mut tasks = [no_task(); 32];
+    let mut uses = [no_use(); 512];
+    load_all(bytes, 0, &mut tasks[..shape.tasks]);
+    load_all(bytes, shape.uses_at, &mut uses[..shape.uses]);
     Table {
-        tasks: load_tasks(bytes, tasks),
-        task_count: tasks,
-        uses: load_uses(bytes, start, uses),
-        use_count: uses,
+        tasks,
+        task_count: shape.tasks,
+        uses,
+        use_count: shape.uses,
     }
 }

@@ -40,7 +40,7 @@ pub struct Use {
 }
 
 // What an accepted table has: its tasks, the place where its uses start, and its uses.
-#[derive(Clone, Copy, PartialEq, Eq, Debug)]
+#[derive(Clone, Copy, PartialEq, Eq, Debug, Default)]
 pub struct Shape {
     pub tasks: usize,
     pub uses_at: usize,
