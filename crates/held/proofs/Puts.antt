@@ -1,5 +1,5 @@
 -- Records that are put into a buffer one after the other: what its front holds then.
-use Prim.Native.Nat.{ℕ, suc, ◌+◌, ◌*◌, ◌<◌, ◌≤◌, min}
+use Prim.Native.Nat.{ℕ, ◌+◌, ◌*◌, ◌<◌, ◌≤◌, min}
 use lib.Dec.{ltb}
 use mathlib.Core.Path.{◌≡◌, sym, ap, ◌∙◌}
 use mathlib.Core.Bool.{Bool, true, false, cond}
@@ -11,9 +11,7 @@ use lib.ListN.{length, get_or, set, take, drop, length-append}
 use lib.Seq.{sets, sets-eq, take_at, length-take-le, take-take, take-suc-set, get_or-take}
 use Rattle.searches.specs.Indexed.{every}
 use Rattle.searches.proofs.Indexed.{every_more, every_same}
-use Rattle.table.specs.declared.Task.{Task}
-use Rattle.table.specs.declared.Use.{Use}
-use Rattle.held.specs.Writing.{word_bytes, task_bytes, use_bytes, all, records_bytes, part_bytes}
+use Rattle.held.specs.Writing.{all, records_bytes, part_bytes}
 use Rattle.held.proofs.Joined.{all_append}
 
 -- ---- the front of a buffer after a store of several bytes
@@ -31,34 +29,6 @@ module _ (b : List ℕ) (at : ℕ) (vs : List ℕ) (room : at + length vs ≤ le
   front_kept =
       let l : length (take at b) ≡ at = length-take-le at b (omega arith) in
       sym (take-take at (at + length vs) (sets b at vs) (omega arith)) ∙ ap (take at) front_more ∙ take_at (take at b) vs at l
-
--- ---- a record, field by field
-
--- a task's fields stored one after the other are its record
-pub task_put : (b : List ℕ) (at : ℕ) (t : Task) (b₁ b₂ b₃ b₄ : List ℕ)
-    → b₁ ≡ sets (set (set (set (set b at 1) (at + 1) t.priority) (at + 2) t.setting) (at + 3) t.sleeps) (at + 4) (word_bytes t.run)
-    → b₂ ≡ sets b₁ (at + 8) (word_bytes t.sleep) → b₃ ≡ sets b₂ (at + 12) (word_bytes t.deadline) → b₄ ≡ sets b₃ (at + 16) (word_bytes t.period)
-    → b₄ ≡ sets b at (task_bytes t)
-task_put b at t b₁ b₂ b₃ b₄ h₁ h₂ h₃ h₄ =
-    let e₁ : at + 1 ≡ suc at = omega arith in
-    let e₂ : at + 2 ≡ suc (suc at) = omega arith in
-    let e₃ : at + 3 ≡ suc (suc (suc at)) = omega arith in
-    let e₄ : at + 4 ≡ suc (suc (suc (suc at))) = omega arith in
-    let e₈ : at + 8 ≡ suc (suc (suc (suc (suc (suc (suc (suc at))))))) = omega arith in
-    let f : at + 12 ≡ suc (suc (suc (suc (suc (suc (suc (suc (suc (suc (suc (suc at))))))))))) = omega arith in
-    let g : at + 16 ≡ suc (suc (suc (suc (suc (suc (suc (suc (suc (suc (suc (suc (suc (suc (suc (suc at))))))))))))))) = omega arith in
-    rw (h₄, h₃, h₂, h₁, e₁, e₂, e₃, e₄, e₈, f, g)
-
--- and a use's
-pub use_put : (b : List ℕ) (at : ℕ) (u : Use) (b₁ : List ℕ)
-    → b₁ ≡ sets (set (set (set (set b at 2) (at + 1) u.priority) (at + 2) u.resource) (at + 3) u.times) (at + 4) (word_bytes u.length)
-    → b₁ ≡ sets b at (use_bytes u)
-use_put b at u b₁ h₁ =
-    let e₁ : at + 1 ≡ suc at = omega arith in
-    let e₂ : at + 2 ≡ suc (suc at) = omega arith in
-    let e₃ : at + 3 ≡ suc (suc (suc at)) = omega arith in
-    let e₄ : at + 4 ≡ suc (suc (suc (suc at))) = omega arith in
-    rw (h₁, e₁, e₂, e₃, e₄)
 
 -- ---- records one after the other
 

@@ -4,7 +4,7 @@
 ghost use Rattle.std.specs.Prelude.{◌≡◌, length};
 ghost use Rattle.held.specs.Loading.{load_table};
 ghost use Rattle.held.specs.Replies.{count_of};
-ghost use Rattle.held.specs.Writing.{write_table, written, decided};
+ghost use Rattle.held.specs.Writing.{write_table, written};
 
 mod encoder;
 mod loader;
@@ -41,18 +41,6 @@ pub fn load(bytes: &[u8]) -> Loaded
     }
 }
 
-// What the writer answers of a table whose bytes are read so, for a buffer of some room: how many bytes are written, or why none are.
-#[tactic(auto, unfolding(crate::specs::Writing::decided))]
-fn decide(reading: Result<Shape, Refusal>, length: usize, room: usize) -> Result<usize, Refusal>
-    ensures { result ≡ decided reading length room }
-{
-    reading?;
-    if room < length {
-        return Err(Why::Room.at(0));
-    }
-    Ok(length)
-}
-
 // How many bytes an answer has written.
 pub fn count(answer: Result<usize, Refusal>) -> usize
     ensures { result ≡ count_of answer }
@@ -64,10 +52,13 @@ pub fn count(answer: Result<usize, Refusal>) -> usize
 pub fn write(table: Table, out: &mut [u8]) -> Result<usize, Refusal>
     ensures { (result ≡ write_table table (length out.old)) × (out.new ≡ written table out.old) }
 {
-    let mut bytes = [0u8; 4765];
-    let length = encoder::encode(&table, &mut bytes);
-    let answer = decide(table::read(&bytes[..length]), length, out.len());
-    let n = count(answer);
-    out[..n].copy_from_slice(&bytes[..n]);
-    answer
+    let mut buffer = [0u8; 4765];
+    let length = encoder::encode(&table, &mut buffer);
+    let bytes = &buffer[..length];
+    table::read(bytes)?;
+    if out.len() < length {
+        return Err(Why::Room.at(0));
+    }
+    out[..length].copy_from_slice(bytes);
+    Ok(length)
 }

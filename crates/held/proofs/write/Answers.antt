@@ -1,47 +1,28 @@
 -- What is left of `held::write`.
-use lib.ListN.{length, take}
-use lib.Seq.{length-take-le, take-length}
-use mathlib.Core.Path.{refl, sym, ◌∙◌}
+use Prim.Native.Nat.{ℕ}
+use lib.ListN.{drop}
+use mathlib.Core.List.{List, ◌++◌}
+use mathlib.Core.Path.{sym, ap, ◌∙◌}
 use native.Mathlib.Omega.{arith}
-use Rattle.held.proofs.Writes.{Encoded, count_within, front_length, answer_is, left_is}
+use Rattle.std.proofs.Common.{Err}
+use Rattle.std.proofs.lemmas.Result.{err_from_is_err_and}
+use Rattle.held.proofs.Writes.{refused, short, done}
 use Rattle.held.proofs.write.Goals as goal
-use Rattle.held.proofs.write.Goals.{After-count-n}
 
--- what is known of the encoded bytes once their answer has been counted
-known : (c : After-count-n)
-    → Encoded c.args.table c.encode-length.new.buffer
-    c.encode-length.result (length c.args.out.now) c.count-n.result
-    c.decide-answer.result
-known c = record {
-  fits = omega (arith, c.encode-length.auto.buffer, c.encode-length.ensures.0);
-  same = c.encode-length.ensures.1;
-  reading = c.read.result;
-  reads = c.read.ensures;
-  answer = c.decide-answer.ensures;
-  counted = c.count-n.ensures;
-}
+pub returns-in_err-read : goal.returns-in_err-read
+returns-in_err-read c =
+    let p = err_from_is_err_and c.from_residual.result c.from_residual.ensures.1 in
+    let a = refused c.args.table c.args.out.now c.encode-length.new.buffer c.encode-length.result (omega arith) c.encode-length.ensures.1 _
+    (sym c.read.ensures ∙ c.in_err-read.was) in
+    (rw (p.1, p.2) a.0, a.1)
 
-pub slice_bounds-bytes-end-2 : goal.slice_bounds-bytes-end-2
-slice_bounds-bytes-end-2 c = (count_within (known (goal.at.slice_bounds-bytes-end-2 c).After-count-n)).0
-
-pub slice_bounds-copy_from_slice-end : goal.slice_bounds-copy_from_slice-end
-slice_bounds-copy_from_slice-end c = (count_within (known c)).2
-
-pub slice_bounds-copy_from_slice-end-2 : goal.slice_bounds-copy_from_slice-end-2
-slice_bounds-copy_from_slice-end-2 c =
-    let room = count_within (known (goal.at.slice_bounds-copy_from_slice-end-2 c).After-count-n) in
-    sym (length-take-le c.count-n.result c.args.out.now room.2)
-
-pub slice_bounds-copy_from_slice-end-3 : goal.slice_bounds-copy_from_slice-end-3
-slice_bounds-copy_from_slice-end-3 c = front_length (known (goal.at.slice_bounds-copy_from_slice-end-3 c).After-count-n)
-
-pub copy_from_slice-requires : goal.copy_from_slice-requires
-copy_from_slice-requires c =
-    let k = known (goal.at.copy_from_slice-requires c).After-count-n in
-    length-take-le c.count-n.result c.args.out.now (count_within k).2 ∙ front_length k
+pub returns-then-out-length : goal.returns-then-out-length
+returns-then-out-length c =
+    let a = short c.args.table c.args.out.now c.encode-length.new.buffer c.encode-length.result (omega arith) c.encode-length.ensures.1 _
+    (sym c.read.ensures ∙ c.in_ok-read.was) c.if-out-length.true in
+    (ap Err c.at.ensures ∙ a.0, a.1)
 
 pub returns : goal.returns
 returns c =
-    let k = known (goal.at.returns c).After-count-n in
-    let front = take c.count-n.result c.encode-length.new.buffer in
-    (answer_is k, left_is k _ _ refl (cc (c.copy_from_slice.ensures.after, front_length k, take-length front)))
+    done c.args.table c.args.out.now c.encode-length.new.buffer c.encode-length.result (omega arith) c.encode-length.ensures.1 _
+    (sym c.read.ensures ∙ c.in_ok-read.was) c.if-out-length.false _ (ap (λ (x : List ℕ). x ++ drop c.encode-length.result c.args.out.now) c.copy_from_slice.ensures.after)
