@@ -1,8 +1,8 @@
 -- A scheduler's arrays seen as the machine's table, entries and open sections.
-use Rattle.std.specs.Prelude.{ℕ, zero, suc, ◌+◌, ◌*◌, Bool, false, not, ◌&&◌, List, [], ◌∷◌, ◌++◌, ◌==◌, nat_lt, slice_index, slice_index_or, Option, None, Some}
+use Rattle.std.specs.Prelude.{ℕ, zero, suc, ◌+◌, ◌*◌, Bool, false, not, ◌&&◌, List, [], ◌∷◌, ◌++◌, ◌==◌, nat_lt, slice_index, slice_index_or, replicate, Option, None, Some}
 use Rattle.searches.specs.Searches.{only}
 use Rattle.protocol.specs.Tasks.{Table, priority, setting}
-use Rattle.protocol.specs.State.{Status, none, ready, waiting, asleep, Entry, Section, serial, holds, is_ready, is_asleep}
+use Rattle.protocol.specs.State.{Status, none, ready, waiting, asleep, Entry, Section, serial, is_ready, is_asleep}
 use Rattle.protocol.specs.Running.{in_force}
 use Rattle.protocol.specs.Checks.{numbered}
 use Rattle.protocol.specs.Acting.{section}
@@ -74,15 +74,32 @@ last_open resources (suc n) = Some (slice_index resources n)
 abbrev pub number_of : Table → (ℕ → Entry) → ℕ → Number
 number_of T f i = record { priority = priority T i; serial = serial (f i) }
 
+-- ---- a scheduler that was set up
+
+-- no job yet
+abbrev pub no_entries : Entries
+no_entries = record {
+  states = replicate 32 0;
+  started = replicate 32 false;
+  sleeps = replicate 32 0;
+  opened = replicate 512 0;
+  held = replicate 32 0;
+  serials = replicate 32 0;
+}
+
+-- no section open
+abbrev pub no_sections : Sections
+no_sections = record { count = 0; places = replicate 16 0; resources = replicate 16 0 }
+
 -- ---- tests of a place
 
--- whether a job is ready and, under the system priority y, eligible: by the number of its state, the resource that it holds and its priority
-abbrev pub eligible_by : ℕ → ℕ → ℕ → ℕ → Bool
-eligible_by state held y p = is_ready (status_of state) && in_force y p (not (held == 0))
+-- whether a job is ready and, under the system priority y, eligible: by its status, the resource that it holds and its priority
+abbrev pub eligible_by : Status → ℕ → ℕ → ℕ → Bool
+eligible_by x held y p = is_ready x && in_force y p (not (held == 0))
 
 -- whether the job at a place is
 abbrev pub eligible_under : Table → (ℕ → Entry) → ℕ → ℕ → Bool
-eligible_under T f y i = is_ready (f i).status && in_force y (priority T i) (holds (f i))
+eligible_under T f y i = eligible_by (f i).status (f i).held y (priority T i)
 
 -- its priority where it is, else 0
 abbrev pub eligible_priority : Table → (ℕ → Entry) → ℕ → ℕ → ℕ

@@ -1,12 +1,13 @@
 // The entries of the tasks, and what is stored into them.
 ghost use Rattle.std.specs.Prelude.{◌≡◌, ◌+◌, ◌<◌, ◌≤◌, ◌&&◌, ◌==◌, length, IfSome};
 ghost use Rattle.protocol.specs.Checks.{numbered};
-ghost use Rattle.arrays.specs.View.{tasks_of, entries_of, number_of, count_of};
+ghost use Rattle.arrays.specs.View.{tasks_of, entries_of, number_of, count_of, no_entries};
+ghost use Rattle.arrays.specs.Statuses.{status_seen};
 ghost use Rattle.arrays.specs.Places.{place_of};
 ghost use Rattle.arrays.specs.Stores.{started_at, Cleared, Counted, Woken};
 
 use crate::marks::woken;
-use crate::{Number, Tasks};
+use crate::{Number, Status, Tasks};
 
 // An entry for each task, by its place: the job's state (0 none, 1 ready, 2 waiting, 3 asleep, and any other number none), whether it is started,
 // its sleeps, the sections opened of each resource, the resource held, and the serial that the next release takes. States stay numbers, since a
@@ -22,6 +23,28 @@ pub struct Entries {
 }
 
 impl Entries {
+    // No job yet.
+    pub fn new() -> Entries
+        ensures { result ≡ no_entries }
+    {
+        Entries {
+            states: [0; 32],
+            started: [false; 32],
+            sleeps: [0; 32],
+            opened: [0; 512],
+            held: [0; 32],
+            serials: [0; 32],
+        }
+    }
+
+    // The status of the job at a place.
+    pub fn status(&self, place: usize) -> Status
+        requires { place < 32 }
+        ensures { status_seen result ≡ (entries_of self.now place).status }
+    {
+        Status::of(self.states[place])
+    }
+
     // The number of the latest job at a place: its serial is the one before the next.
     pub fn number_at(&self, tasks: &Tasks, place: usize) -> Number
         requires { place < 32 }

@@ -5,7 +5,6 @@ ghost use Rattle.arrays.specs.View.{tasks_of, entries_of};
 ghost use Rattle.arrays.specs.Rulings.{ruling_of, Roomy};
 
 use crate::counts::count_at;
-use crate::marks::is_unfinished;
 use crate::{Denial, Entries, Tasks};
 
 impl Entries {
@@ -14,7 +13,7 @@ impl Entries {
         requires { place < 32 }
         ensures { ruling_of result ≡ releasing (entries_of self.now) place }
     {
-        if is_unfinished(self.states[place]) {
+        if self.status(place).is_unfinished() {
             return Err(Denial::Unfinished);
         }
         Ok(place)

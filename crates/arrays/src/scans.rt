@@ -5,7 +5,7 @@ ghost use Rattle.protocol.specs.Running.{system_priority, in_force, running};
 ghost use Rattle.arrays.specs.View.{tasks_of, entries_of, eligible_priority, sleeping};
 ghost use Rattle.arrays.specs.Places.{place_of};
 
-use crate::marks::{is_asleep, is_eligible, is_leading, is_unfinished};
+use crate::marks::{is_eligible, is_leading};
 use crate::{Entries, Number, Tasks};
 
 impl Entries {
@@ -17,7 +17,7 @@ impl Entries {
         let mut highest: u8 = 0;
         for i in 0..tasks.count {
             let setting = tasks.settings[i];
-            let counts = self.started[i] & is_unfinished(self.states[i]);
+            let counts = self.started[i] & self.status(i).is_unfinished();
             let counted = if counts { setting } else { 0 };
             highest = highest.max(counted);
         }
@@ -32,7 +32,7 @@ impl Entries {
         let mut highest: u8 = 0;
         for i in 0..tasks.count {
             let priority = tasks.priorities[i];
-            let eligible = is_eligible(self.states[i], self.held[i], system, priority);
+            let eligible = is_eligible(self.status(i), self.held[i], system, priority);
             let counted = if eligible { priority } else { 0 };
             highest = highest.max(counted);
         }
@@ -49,7 +49,7 @@ impl Entries {
         let highest = self.highest_eligible(tasks, system);
         for i in 0..tasks.count {
             let leads = is_leading(
-                self.states[i],
+                self.status(i),
                 self.held[i],
                 system,
                 tasks.priorities[i],
@@ -70,7 +70,7 @@ impl Entries {
     {
         for i in 0..tasks.count {
             let named = self.has_number(tasks, i, job);
-            if is_asleep(self.states[i]) & named {
+            if self.status(i).is_asleep() & named {
                 return Some(i);
             }
         }

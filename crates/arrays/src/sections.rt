@@ -2,7 +2,7 @@
 ghost use Rattle.std.specs.Prelude.{◌≡◌, ◌-◌, ◌<◌, ◌≤◌, ◌&&◌, IfSome, nat_le};
 ghost use Rattle.searches.specs.Searches.{first};
 ghost use Rattle.protocol.specs.Fit.{named};
-ghost use Rattle.arrays.specs.View.{tasks_of, sections_of, last_open, is_section};
+ghost use Rattle.arrays.specs.View.{tasks_of, sections_of, no_sections, last_open, is_section};
 ghost use Rattle.arrays.specs.Places.{place_of};
 ghost use Rattle.arrays.specs.Stores.{Removed};
 
@@ -17,6 +17,17 @@ pub struct Sections {
 }
 
 impl Sections {
+    // None is open.
+    pub fn new() -> Sections
+        ensures { result ≡ no_sections }
+    {
+        Sections {
+            count: 0,
+            places: [0; 16],
+            resources: [0; 16],
+        }
+    }
+
     // The resource of the last opened section still open.
     pub fn last_open(&self) -> Option<u8>
         requires { self.now.count ≤ 16 }

@@ -1,5 +1,6 @@
 // What a task's job is, and the number that stands for it in an array.
-ghost use Rattle.std.specs.Prelude.{◌≡◌};
+ghost use Rattle.std.specs.Prelude.{◌≡◌, not};
+ghost use Rattle.protocol.specs.State.{is_none, is_ready, is_asleep};
 ghost use Rattle.arrays.specs.View.{status_of, own_number};
 ghost use Rattle.arrays.specs.Statuses.{status_seen};
 
@@ -35,5 +36,26 @@ impl Status {
             Status::Waiting => 2,
             Status::Asleep => 3,
         }
+    }
+
+    // Whether a job is ready.
+    pub fn is_ready(self) -> bool
+        ensures { result ≡ is_ready (status_seen self) }
+    {
+        matches!(self, Status::Ready)
+    }
+
+    // Whether a job is asleep.
+    pub fn is_asleep(self) -> bool
+        ensures { result ≡ is_asleep (status_seen self) }
+    {
+        matches!(self, Status::Asleep)
+    }
+
+    // Whether there is a job.
+    pub fn is_unfinished(self) -> bool
+        ensures { result ≡ not (is_none (status_seen self)) }
+    {
+        !matches!(self, Status::NoJob)
     }
 }

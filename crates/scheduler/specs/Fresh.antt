@@ -1,5 +1,5 @@
 -- What setting up answers: the scheduler of an accepted table with no job yet, or the refusal and a scheduler with no tasks.
-use Rattle.std.specs.Prelude.{List, Bool, false, cond, ◌&&◌, ℕ, zero, suc, ◌+◌, ◌*◌, ◌/◌, ◌%◌, ltb, eqb, get_or, replicate, None, Some, Result, Ok, Err}
+use Rattle.std.specs.Prelude.{List, Bool, cond, ◌&&◌, ℕ, zero, suc, ◌+◌, ◌*◌, ◌/◌, ◌%◌, ltb, eqb, get_or, replicate, None, Some, Result, Ok, Err}
 use Rattle.searches.specs.Searches.{only}
 use Rattle.table.specs.declared.Shape.{Shape}
 use Rattle.table.specs.declared.Use.{Use}
@@ -7,23 +7,14 @@ use Rattle.table.specs.declared.Refusal.{Refusal}
 use Rattle.searches.specs.Indexed.{every}
 use Rattle.table.specs.Reading.{read_table}
 use Rattle.table.specs.WellFormed.{task_of, use_of}
+use Rattle.arrays.specs.declared.tasks.Tasks.{Tasks}
+use Rattle.arrays.specs.View.{no_entries, no_sections}
 use Rattle.scheduler.specs.declared.Scheduler.{Scheduler}
 use Rattle.scheduler.specs.declared.setup.SetUp.{SetUp}
 
--- no job yet: the rules of the tasks, and zeros
-abbrev pub fresh_with : ℕ → List ℕ → List ℕ → List ℕ → List ℕ → Scheduler
-fresh_with tasks priorities settings most uses = record {
-  tasks = record { count = tasks; priorities = priorities; settings = settings; most = most; uses = uses };
-  entries = record {
-    states = replicate 32 0;
-    started = replicate 32 false;
-    sleeps = replicate 32 0;
-    opened = replicate 512 0;
-    held = replicate 32 0;
-    serials = replicate 32 0;
-  };
-  sections = record { count = 0; places = replicate 16 0; resources = replicate 16 0 };
-}
+-- these tasks, and no job yet
+abbrev pub fresh_with : Tasks → Scheduler
+fresh_with t = record { tasks = t; entries = no_entries; sections = no_sections }
 
 -- a byte of each of n task records, 0 past them
 abbrev pub column : List ℕ → ℕ → ℕ → List ℕ
@@ -48,11 +39,23 @@ all_times s h = times_by s h.tasks h.uses_at h.uses
 
 -- the scheduler of an accepted table: priority, setting and most sleeps are the bytes 1 to 3 of a task's record
 abbrev pub fresh_of : List ℕ → Shape → Scheduler
-fresh_of s h = fresh_with h.tasks (column s h.tasks 1) (column s h.tasks 2) (column s h.tasks 3) (all_times s h)
+fresh_of s h = fresh_with (record {
+  count = h.tasks;
+  priorities = column s h.tasks 1;
+  settings = column s h.tasks 2;
+  most = column s h.tasks 3;
+  uses = all_times s h;
+})
 
 -- a scheduler with no tasks
 abbrev pub empty : Scheduler
-empty = fresh_with 0 (replicate 32 0) (replicate 32 0) (replicate 32 0) (replicate 512 0)
+empty = fresh_with (record {
+  count = 0;
+  priorities = replicate 32 0;
+  settings = replicate 32 0;
+  most = replicate 32 0;
+  uses = replicate 512 0;
+})
 
 -- what setting up answers, by what the bytes are read as
 unfoldable pub set_up_by : Result Shape Refusal → List ℕ → SetUp

@@ -44,23 +44,12 @@ fn times(bytes: &[u8], shape: Shape) -> [u8; 512]
 
 // A scheduler of these tasks with no job yet.
 fn with_tasks(tasks: Tasks) -> Scheduler
-    ensures { result ≡ fresh_with tasks.count tasks.priorities tasks.settings tasks.most tasks.uses }
+    ensures { result ≡ fresh_with tasks }
 {
     Scheduler {
         tasks,
-        entries: Entries {
-            states: [0; 32],
-            started: [false; 32],
-            sleeps: [0; 32],
-            opened: [0; 512],
-            held: [0; 32],
-            serials: [0; 32],
-        },
-        sections: Sections {
-            count: 0,
-            places: [0; 16],
-            resources: [0; 16],
-        },
+        entries: Entries::new(),
+        sections: Sections::new(),
     }
 }
 
