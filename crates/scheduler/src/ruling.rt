@@ -1,7 +1,8 @@
 // What is checked of each call: the place of the job that it is granted to, or why it is refused.
-ghost use Rattle.std.specs.Prelude.{◌≡◌, ◌<◌, ◌≤◌, IfOk, IsTrue, slice_index};
+ghost use Rattle.std.specs.Prelude.{◌≡◌, ◌<◌, ◌≤◌, IfOk, IfErr, true, false, slice_index};
 ghost use Rattle.protocol.specs.Fit.{fit};
 ghost use Rattle.protocol.specs.Checks.{Call};
+ghost use Rattle.arrays.specs.declared.denial.Denial.TheVariants.{Unfit};
 ghost use Rattle.arrays.specs.Rulings.{Roomy};
 ghost use Rattle.scheduler.specs.View.{table_of, state_of};
 ghost use Rattle.scheduler.specs.Rulings.{Ruled, by_number, ruling_on};
@@ -9,21 +10,23 @@ ghost use Rattle.scheduler.specs.Rulings.{Ruled, by_number, ruling_on};
 use crate::{Denial, Number, Scheduler};
 
 impl Scheduler {
-    // Whether the state is fit.
-    fn is_fit(&self) -> bool
-        ensures told { result ≡ fit (table_of self.now) (state_of self.now) }
-        ensures few { IsTrue result → (self.now.tasks.count ≤ 32) × (self.now.sections.count ≤ 16) }
+    // An unfit state is refused before all else.
+    fn fitness(&self) -> Result<(), Denial>
+        ensures fit { IfOk result (λ u. (fit (table_of self.now) (state_of self.now) ≡ true) × (self.now.tasks.count ≤ 32) × (self.now.sections.count ≤ 16)) }
+        ensures unfit { IfErr result (λ d. (d ≡ Unfit) × (fit (table_of self.now) (state_of self.now) ≡ false)) }
     {
-        self.tasks.are_fit() & self.sections.are_fit(&self.tasks)
+        if self.tasks.are_fit() & self.sections.are_fit(&self.tasks) {
+            Ok(())
+        } else {
+            Err(Denial::Unfit)
+        }
     }
 
     // The place of the running job, where it has this number: what is checked first of every call of its own.
     fn caller(&self, job: Number) -> Result<usize, Denial>
         ensures { Ruled self.now (by_number self.now job.priority job.serial) result }
     {
-        if !self.is_fit() {
-            return Err(Denial::Unfit);
-        }
+        self.fitness()?;
         let at = self.entries.running(&self.tasks).ok_or(Denial::Stranger)?;
         if !self.entries.has_number(&self.tasks, at, job) {
             return Err(Denial::Stranger);
@@ -35,9 +38,7 @@ impl Scheduler {
     pub(crate) fn release_ruling(&self, priority: u8) -> Result<usize, Denial>
         ensures { Ruled self.now (ruling_on self.now (Call.release priority)) result }
     {
-        if !self.is_fit() {
-            return Err(Denial::Unfit);
-        }
+        self.fitness()?;
         let at = self
             .tasks
             .place_of_priority(priority)
@@ -49,9 +50,7 @@ impl Scheduler {
     pub(crate) fn resume_ruling(&self, job: Number) -> Result<usize, Denial>
         ensures { Ruled self.now (ruling_on self.now (Call.resume job.priority job.serial)) result }
     {
-        if !self.is_fit() {
-            return Err(Denial::Unfit);
-        }
+        self.fitness()?;
         self.entries
             .sleeper(&self.tasks, job)
             .ok_or(Denial::NoSleeper)
