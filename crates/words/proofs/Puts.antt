@@ -35,10 +35,6 @@ put_then o at t u o₁ o₂ r₁ r₂ l p q = record {
         rw (p.holds, z) (drop-append-add (take at o) (t ++ drop (at + length t) o) (length t + length u)
         ∙ drop-append-add t (drop (at + length t) o) (length u) ∙ grind (arith, common_steps))
 
--- a text put where another ended within the buffer: both together, with its arguments found
-pub put_on : {o t u o₁ o₂ : List ℕ} {at r₁ r₂ : ℕ} → Put o at t o₁ r₁ → r₁ ≤ length o → Put o₁ r₁ u o₂ r₂ → Put o at (t ++ u) o₂ r₂
-put_on {o} {t} {u} {o₁} {o₂} {at} {r₁} {r₂} p l q = put_then o at t u o₁ o₂ r₁ r₂ (omega (arith, p.end)) p q
-
 -- a text put at the front ends within the buffer
 pub put_counts : (o t after : List ℕ) (r : ℕ) → Put o 0 t after r → IsPrefixLen r after
 put_counts o t after r p = rw (p.holds, p.end) (grind (arith, common_steps), grind (arith, common_steps))
