@@ -1,7 +1,7 @@
 -- What a host is told: refused with 8 exactly when the total is larger than the allowance, an answer given stands under any larger one, the
 -- verdict is yes exactly when no task has none, and a value is conditional exactly when some task has none.
 use Prim.Native.Nat.{ℕ, ◌-◌, ◌≤◌, ◌<◌}
-use Rattle.std.specs.Prelude.{Ok, Err}
+use Rattle.std.specs.Prelude.{Ok, Err, None}
 use mathlib.Core.Path.{◌≡◌, refl, sym, ap, ap₂, ◌∙◌}
 use mathlib.Core.Logic.{◌↔◌}
 use mathlib.Core.Bool.{Bool, true, false, cond}
@@ -195,10 +195,10 @@ verdict_enough s h e allowance q = go (dec_le (total_of s h) allowance)
 
 module _ (s : List ℕ) (h : Shape) (e : read_table s ≡ Ok h) (allowance : ℕ) (yes-all : (analysed s allowance).verdict ≡ true) where
   -- then nothing is refused, and the answers are those of all tasks
-  pub yes_unrefused : (refusal_number (analysed s allowance).refusal ≡ 0) × ((analysed s allowance).tasks ≡ h.tasks)
+  pub yes_unrefused : ((analysed s allowance).refusal ≡ None) × ((analysed s allowance).tasks ≡ h.tasks)
   yes_unrefused =
       let w = whole s h e allowance (verdict_enough s h e allowance yes-all) in
-      (ap (λ (a : Analysis). refusal_number a.refusal) w, ap (λ (a : Analysis). a.tasks) w)
+      (ap (λ (a : Analysis). a.refusal) w, ap (λ (a : Analysis). a.tasks) w)
 
   -- and each task is told a bound, from 1 to its deadline
   pub yes_told : (i : ℕ) → i < h.tasks → (t : ℕ) × (answer_at (analysed s allowance) i ≡ Bound t) × (1 ≤ t) × (t ≤ (task_of s i).deadline)

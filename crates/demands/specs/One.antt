@@ -20,7 +20,10 @@ use Rattle.analysis.specs.Answering.{answer_at}
 use Rattle.report.specs.declared.Row.{Row}
 use Rattle.report.specs.Reporting.{reported, rows_after}
 use Rattle.words.specs.Writing.{Put}
+use Rattle.notation.specs.declared.Fault.{Fault}
+use Rattle.notation.specs.Numbered.{packing_of}
 use Rattle.notation.specs.Packing.{pack_into}
+use Rattle.notation.proofs.Views.{packing_one}
 use Rattle.protocol.specs.Tasks.{priority}
 use Rattle.protocol.specs.State.{serial}
 use Rattle.protocol.specs.Running.{in_force}
@@ -79,7 +82,7 @@ pub record OneReply : Type 0 where
   pub calls : (s : Scheduler) (c : Call) → One (replied s c)
   pub denial_numbers : (d : Denial) → One (denial_number d)
   -- notation::pack, and the buffer that it is lent
-  pub packs : (room : ℕ) (t : List ℕ) → One (pack_into room t).packing
+  pub packs : (room : ℕ) (t : List ℕ) (r q : Result ℕ Fault) → packing_of r ≡ (pack_into room t).packing → packing_of q ≡ (pack_into room t).packing → r ≡ q
   pub packs_to : (t out : List ℕ) → One ((pack_into (length out) t).bytes ++ drop (length (pack_into (length out) t).bytes) out)
   -- lines::bounds_lines, notation::show, notation::fault_line, notation::pack_reply: each puts one text at the front of a buffer, and of any text
   -- that is put there the place after it and the whole buffer are fixed
@@ -111,7 +114,7 @@ one_reply = record {
   sets_up = λ s. one (set_up s);
   calls = λ s c. one (replied s c);
   denial_numbers = λ d. one (denial_number d);
-  packs = λ room t. one (pack_into room t).packing;
+  packs = λ room t r q e f. packing_one r q (e ∙ sym f);
   packs_to = λ t out. one ((pack_into (length out) t).bytes ++ drop (length (pack_into (length out) t).bytes) out);
   prints = λ t out o₁ o₂ r₁ r₂ p q. (p.end ∙ sym q.end, p.holds ∙ sym q.holds);
 }

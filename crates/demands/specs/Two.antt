@@ -30,8 +30,7 @@ use Rattle.analysis.proofs.Replies as replies
 use Rattle.analysis.proofs.Replies.{total_of, SomeNone}
 use Rattle.lines.specs.Lines.{printed}
 use Rattle.lines.proofs.Fronts.{front_printed}
-use Rattle.notation.specs.declared.Fault.{Fault}
-use Rattle.notation.specs.declared.Packing.TheVariants.{Packed, Faulty}
+use Rattle.notation.specs.Numbered.{Fault, Packed, Faulty}
 use Rattle.notation.specs.Packing.{packed, pack_text}
 use Rattle.notation.specs.Faults.{pack_printed}
 use Rattle.notation.specs.Showing.{shown}

@@ -15,7 +15,7 @@ use Rattle.equations.specs.Counting.{ceil}
 use Rattle.equations.specs.Equations.{blocking, addition, additions}
 use Rattle.equations.proofs.Places.{additions_by_place}
 use Rattle.equations.specs.View.{own_settings}
-use Rattle.protocol.specs.Tasks.{priority, setting}
+use Rattle.protocol.specs.Tasks.{priority}
 use Rattle.protocol.specs.State.{Status, none, ready, waiting, asleep, is_asleep, holds}
 use Rattle.protocol.specs.Running.{in_force, ceiling}
 use Rattle.protocol.proofs.Runner.{held_holds, Runs, runs}
