@@ -25,15 +25,6 @@ module _ (s : List ℕ) (i : ℕ) (past : length s ≤ i) where
       let d = get_or-eq_default s 0 {n = i + k + 3} (omega arith) in
       omega arith
 
-  pub word_past : word_at s i ≡ 0
-  unfolding word_at
-  word_past =
-      let a = get_or-eq_default s 0 {n = i} past in
-      let b = byte_past 1 in
-      let c = byte_past 2 in
-      let d = byte_past 3 in
-      omega arith
-
   pub task_past : no_task ≡ task_at s i
   task_past = cc (byte_past 1, byte_past 2, byte_past 3, word_past_by 4, word_past_by 8, word_past_by 12, word_past_by 16)
 

@@ -61,6 +61,7 @@ pub fn no_use() -> Use
 }
 
 // The task record that starts at a place.
+#[tactic(auto, using(crate::proofs::Laws::task_past))]
 pub fn task_at(bytes: &[u8], at: usize) -> Task
     ensures { result ≡ task_at bytes.now at }
 {
@@ -79,6 +80,7 @@ pub fn task_at(bytes: &[u8], at: usize) -> Task
 }
 
 // The use record that starts at a place.
+#[tactic(auto, using(crate::proofs::Laws::use_past))]
 pub fn use_at(bytes: &[u8], at: usize) -> Use
     ensures { result ≡ use_at bytes.now at }
 {

@@ -51,7 +51,7 @@ pub fn task_rule(walk: Walk, task: Task) -> Result<(), Why>
     Ok(())
 }
 
-// The place of the first task with this priority, from a place on, or the count where there is none.
+// The place of the first task with this priority, from a place on. Where there is none it is the count, as in the definition, and not `None`.
 pub fn place_of(bytes: &[u8], count: usize, first: usize, priority: u8) -> usize
     requires { (20 * count ≤ length bytes.now) × (first ≤ count) }
     ensures { result ≡ place_from (count - first) bytes.now first priority }

@@ -10,6 +10,7 @@ use crate::{Refusal, Shape, Task, Use, Why};
 
 // Where the walk stands: the next record's place; the tasks so far and the last one's priority, 256 before the first; the uses so far,
 // the place of the last one's task, the least resource that its next use may name, and what its sections add up to.
+// `last` is no `Option`: 256 is above every priority, so one comparison serves the first task too.
 // That it is `Sound` is required and no ghost field: the definitions build walks that are not.
 #[derive(Clone, Copy)]
 pub struct Walk {
