@@ -1,7 +1,7 @@
 // Where words stand in a text, and what numbers they are.
 ghost use Rattle.std.specs.Prelude.{◌≡◌, ◌≤◌, length, take_while};
 ghost use Rattle.words.specs.Classes.{class_number};
-ghost use Rattle.words.specs.Finding.{in_class, run_end, same, with_digit, value_of};
+ghost use Rattle.words.specs.Finding.{blank, in_class, run_end, same, with_digit, value_of};
 
 // A class of bytes: blanks, what a word has, what a line has, digits.
 #[derive(Clone, Copy)]
@@ -12,14 +12,21 @@ pub enum Class {
     Digit,
 }
 
+// Whether a byte is a blank: a space, a tab or a carriage return.
+fn is_blank(byte: u8) -> bool
+    ensures { result ≡ blank byte }
+{
+    matches!(byte, b' ' | b'\t' | b'\r')
+}
+
 impl Class {
     // Whether a byte is of the class.
     fn has(self, byte: u8) -> bool
         ensures { result ≡ in_class (class_number self) byte }
     {
         match self {
-            Class::Blank => matches!(byte, b' ' | b'\t' | b'\r'),
-            Class::Word => !matches!(byte, b' ' | b'\t' | b'\r' | b'\n' | b'#'),
+            Class::Blank => is_blank(byte),
+            Class::Word => !(is_blank(byte) || byte == b'\n' || byte == b'#'),
             Class::Line => byte != b'\n',
             Class::Digit => byte.is_ascii_digit(),
         }
