@@ -1,4 +1,8 @@
 // Printing and adding up replies.
+ghost use Rattle.std.specs.Prelude.{OnOk};
+ghost use Rattle.std.specs.Io.KnownBytes.{Appends};
+ghost use Rattle.calls.specs.Lines.{reply_line};
+
 use harness::sums::Checksum;
 use scheduler::{Number, Reply, refusal_number};
 use std::io;
@@ -11,7 +15,9 @@ const NOBODY: Number = Number {
 };
 
 // Prints the line of a reply.
-pub fn put_reply(out: &mut impl Write, reply: &Reply) -> io::Result<()> {
+pub fn put_reply<W: Write>(out: &mut W, reply: &Reply) -> io::Result<()>
+    ensures { OnOk result (Appends (W.contents out.old) (W.contents out.new) (reply_line reply.now)) }
+{
     let refusal = refusal_number(reply.refusal);
     match reply.running {
         None => writeln!(out, "{refusal} idle"),
