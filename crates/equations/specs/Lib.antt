@@ -3,6 +3,7 @@ pub mod Bag
 pub mod View
 pub mod Equations
 pub mod Ceilings
+pub mod Seen
 pub mod Keeping
 pub mod Picking
 pub mod Ready

@@ -1,7 +1,7 @@
 // What higher tasks add to a right side.
 ghost use Rattle.std.specs.Prelude.{◌≡◌, ◌+◌, ◌-◌, ◌*◌, ◌≤◌, ◌<◌};
 ghost use Rattle.equations.specs.Counting.{ceil};
-ghost use Rattle.equations.specs.View.{view_of};
+ghost use Rattle.equations.specs.Seen.{seen};
 ghost use Rattle.equations.specs.Equations.{addition, additions};
 ghost use Rattle.equations.specs.Ready.{Ready};
 
@@ -29,8 +29,7 @@ impl<'a> Equations<'a> {
     fn added(&self, vector: &[u64], at: At, j: usize) -> u64
         requires ready { Ready self.now.table.bytes.now self.now.table.shape vector.now at }
         requires j_lt_task { j < at.task }
-        ensures { (result ≡ addition (view_of self.now.table.bytes.now self.now.table.shape self.now.settings.now) at.task vector.now at.length j)
-            × (result ≤ 2000000000000) }
+        ensures { (result ≡ addition (seen self.now) at.task vector.now at.length j) × (result ≤ 2000000000000) }
     {
         let higher = self.table.task(j);
         let run = u64::from(higher.run);
@@ -44,8 +43,7 @@ impl<'a> Equations<'a> {
     // What all higher tasks add.
     pub fn additions(&self, vector: &[u64], at: At) -> u64
         requires { Ready self.now.table.bytes.now self.now.table.shape vector.now at }
-        ensures { (result ≡ additions (view_of self.now.table.bytes.now self.now.table.shape self.now.settings.now) at.task vector.now at.length)
-            × (result ≤ 64000000000000) }
+        ensures { (result ≡ additions (seen self.now) at.task vector.now at.length) × (result ≤ 64000000000000) }
     {
         let mut sum = 0;
         for j in 0..at.task {
