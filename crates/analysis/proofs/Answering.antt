@@ -14,18 +14,13 @@ use Rattle.searches.proofs.Indexed.{same_at, filled_is}
 use Rattle.table.specs.declared.Shape.{Shape}
 use Rattle.table.specs.declared.Why.TheVariants.{Allowance}
 use Rattle.table.specs.WellFormed.{WellFormed}
-use Rattle.rounds.specs.Rounds.{Progress, analysis, answer, begin}
+use Rattle.rounds.specs.Rounds.{Progress, analysis, answer}
 use Rattle.rounds.proofs.AllowanceLaws.{within_allowed, beyond_refused}
 use Rattle.equations.specs.View.{own_settings}
 use Rattle.analysis.specs.declared.Analysis.{Analysis}
-use Rattle.analysis.specs.Rounding.{deadline_of, progress, bounded, Marks, Final}
+use Rattle.analysis.specs.Rounding.{bounded, Marks, Final}
 use Rattle.analysis.specs.Analysing.{own_system, refused_by, verdict_of, analysed_as}
 use Rattle.analysis.proofs.Table.{equations_of, table_size}
-
--- the rounds begin at the deadlines
-pub begin_is : (s : List ℕ) (h : Shape) (settings v : List ℕ) (n made : ℕ) → v ≡ every (deadline_of s) n 0 → n ≡ h.tasks → made ≡ 0
-    → progress v made ≡ begin (equations_of s h settings)
-begin_is s h settings v n made e l z = rw (e, l, z)
 
 -- no task is marked yet
 pub marks_start : (n : ℕ) → Marks n (replicate 32 false)

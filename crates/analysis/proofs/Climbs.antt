@@ -5,7 +5,7 @@ use native.Mathlib.Omega.{arith}
 use Rattle.rounds.specs.Answer.{none}
 use Rattle.rounds.specs.Solver.{Reply}
 use Rattle.rounds.specs.SolverLoop.{Climbing}
-use Rattle.rounds.proofs.SolverLoop.{climbing_over, climbing_next, climbing_rises}
+use Rattle.rounds.proofs.SolverLoop.{climbing_over, climbing_next}
 
 -- before a test: within the deadline the climb goes on, and past it the answer is none
 pub record Solving (g : ℕ → ℕ) (d allowance : ℕ) (whole : Reply) (t e : ℕ) : Type 0 where
@@ -19,7 +19,3 @@ module _ (g : ℕ → ℕ) (d allowance : ℕ) (whole : Reply) (t e u : ℕ) (s 
     climbing = λ within. climbing_next g d allowance whole t e (s.climbing l) u is rises ne within m;
     over = λ past. (climbing_over g d allowance whole t e (s.climbing l) u is past, omega arith);
   }
-
-  -- and is larger
-  pub solving_rises : t < u
-  solving_rises = climbing_rises g d allowance whole t e (s.climbing l) u is ne

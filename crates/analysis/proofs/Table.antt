@@ -14,7 +14,6 @@ use Rattle.equations.specs.declared.Query.{Query}
 use Rattle.equations.specs.declared.keeps.KeptUses.{KeptUses}
 use Rattle.equations.specs.View.{view_of}
 use Rattle.equations.specs.Equations.{system_of}
-use Rattle.equations.specs.Ready.{Asking}
 use Rattle.equations.proofs.Accepted.{table_lawful}
 use Rattle.rounds.proofs.SolverSteps.{solve_over}
 use Rattle.rounds.proofs.SolverLoop.{climbing_start}
@@ -48,24 +47,12 @@ module _ (E : Equations) (v : List ℕ) (kept : KeptUses) (q : Query) (g : Solva
   own_deadline : own.deadline ≡ deadline S q.task
   own_deadline = deadline_is E.table.bytes.now E.table.shape E.settings.now E.table.well_formed q.task g.task
 
-  pub deadline_most : own.deadline ≤ 1000000
-  deadline_most =
-      let r = E.table.well_formed.task_range q.task g.task in
-      omega (arith, r.deadline_within, r.period)
-
   -- where t starts: not above the right side there
   start_above : S.start q.task ≤ S.side q.task v (S.start q.task)
   start_above = (table_lawful E.table.bytes.now E.table.shape E.settings.now E.table.well_formed).above q.task placed v (S.start q.task)
 
   pub side_rises : (a b : ℕ) → a ≤ b → S.side q.task v a ≤ S.side q.task v b
   side_rises a b l = (table_lawful E.table.bytes.now E.table.shape E.settings.now E.table.well_formed).rises q.task placed v v a b (⊑_refl v) l
-
-  -- what a right side asks
-  pub asking : (t : ℕ) → t ≤ 1000000 → Asking E.table.bytes.now E.table.shape E.settings.now v kept.words kept.count q t
-  asking t l = record {
-    query = g.query;
-    ready = record { sized = g.sized; most = g.most; floor = g.floor; task = g.task; length_most = l };
-  }
 
   -- the solver's loop begins at C + S
   pub begins : (made allowance : ℕ) → made ≤ allowance

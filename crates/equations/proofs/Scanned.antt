@@ -15,7 +15,7 @@ use Rattle.searches.proofs.Searching.{largest_more}
 use Rattle.table.specs.declared.Shape.{Shape}
 use Rattle.table.specs.WellFormed.{task_of, use_of, user_of, WellFormed}
 use Rattle.table.proofs.Laws.{place_has}
-use Rattle.equations.specs.Ready.{UsesFrom, reaching_length, Longest}
+use Rattle.equations.specs.Ready.{reaching_length, Longest}
 
 -- ---- ceilings
 
@@ -75,10 +75,6 @@ pub record Seeking (s : List ℕ) (start n p low size : ℕ) : Type 0 where
   pub before : (k : ℕ) → k < low → p ≤ (use_of s start k).priority
   pub after : (k : ℕ) → low + size ≤ k → k < n → (use_of s start k).priority < p
 
--- nothing is known yet
-pub seeking_start : (s : List ℕ) (h : Shape) (p : ℕ) → Seeking s h.uses_at h.uses p 0 h.uses
-seeking_start s h p = record { within = omega arith; before = λ k l. absurd (omega arith); after = λ k a b. absurd (omega arith) }
-
 -- one half less
 pub seeking_next : (s : List ℕ) (h : Shape) → WellFormed s h → (p low size : ℕ) → Seeking s h.uses_at h.uses p low size → 0 < size → (r : ℕ)
     → r ≡ cond (ltb (use_of s h.uses_at (low + (size + 1) / 2 - 1)).priority p) low (low + (size + 1) / 2) → Seeking s h.uses_at h.uses p r (size - (size + 1) / 2)
@@ -100,14 +96,6 @@ seeking_next s h w p low size g some r e = go (dec_lt (use_of s h.uses_at (low +
           before = λ k l. omega (arith, uses_fall s h w k (low + (size + 1) / 2 - 1) (omega arith) (omega (arith, g.within)));
           after = λ k l m. g.after k (omega arith) m;
         }
-
--- nothing is left to look at
-pub seeking_end : (s : List ℕ) (h : Shape) (p low size : ℕ) → Seeking s h.uses_at h.uses p low size → size ≤ 0 → UsesFrom s h p low
-seeking_end s h p low size g none = record {
-  within = omega (arith, g.within);
-  before = g.before;
-  after = λ k a b. g.after k (omega arith) b;
-}
 
 -- ---- the longest
 
