@@ -8,7 +8,7 @@ use Rattle.held.specs.Writing.{word_bytes}
 use Rattle.words.specs.Finding.{run_end, word_start, word_of, same, is_number, value_of}
 use Rattle.notation.specs.Columns.{name, least, most, wide, value_bytes}
 use Rattle.notation.specs.Rows.{Cell, Row, number_at, cell_at, cells_from, row_at}
-use Rattle.notation.proofs.Naming.{chosen}
+use Rattle.notation.proofs.Choosing.{chosen}
 
 module _ (s : List ℕ) where
   -- a cell's word and end, from a place on

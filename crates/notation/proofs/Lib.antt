@@ -1,4 +1,4 @@
-mod Naming
+mod Choosing
 pub mod Views
 mod Rowing
 mod Froms

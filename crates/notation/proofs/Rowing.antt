@@ -15,7 +15,7 @@ use Rattle.words.specs.Finding.{lead, in_class, run_end, word_start, word_of, sa
 use Rattle.words.specs.Writing.{Put}
 use Rattle.words.proofs.Puts.{put_none, put_then}
 use Rattle.notation.specs.declared.causes.Cause.{Cause}
-use Rattle.notation.specs.declared.causes.Cause.TheVariants.{FirstWord, MoreWords}
+use Rattle.notation.specs.declared.causes.Cause.TheVariants.{FirstWord}
 use Rattle.notation.specs.declared.columns.Column.{Column}
 use Rattle.notation.specs.declared.kinds.Kind.{Kind}
 use Rattle.notation.specs.declared.kinds.Kind.TheVariants.{Task, Use}
@@ -123,27 +123,6 @@ pub put_narrow : (o : List ℕ) (at c v : ℕ) → at + 1 ≤ length o → wide 
 unfolding value_bytes
 put_narrow o at c v l w = rw w (put_sets o (v % 256 ∷ []) at l)
 
--- ---- the end of a line
-
-module _ {s : List ℕ} {at b e : ℕ} (f : Found s at b e) (n : ℕ) where
-  -- what the end of a line reads as, by the word there
-  end_of : no_row (cond (eqb (length (take (e - b) (drop b s))) 0) 0 6) 11 b ≡ row_end s (word_start s at)
-  end_of =
-      ap (λ (w : List ℕ). no_row (cond (eqb (length w) 0) 0 6) 11 b) (part_word f) ∙ ap (λ (k : ℕ). row_end s k) f.start
-
-  -- no word is there
-  pub end_none : e ≤ b → RowRead s (row_end s (word_start s at)) n (Ok (record { at = b; count = n }))
-  end_none h =
-      let is : row_end s (word_start s at) ≡ no_row 0 11 b = sym end_of ∙ simp (word_none f (omega (arith, f.end))) in
-      subst (λ (r : Row). RowRead s r n (Ok (record { at = b; count = n }))) (sym is) (record { cause = refl; at = refl; count = omega arith; within = f.first })
-
-  -- a word too many
-  pub end_word : b < e → RowRead s (row_end s (word_start s at)) n (Err (record { cause = MoreWords; column = None; at = b }))
-  end_word h =
-      let is : row_end s (word_start s at) ≡ no_row 6 11 b = sym end_of ∙ simp (word_some f (omega arith)) in
-      subst (λ (r : Row). RowRead s r n (Err (record { cause = MoreWords; column = None; at = b }))) (sym is)
-      (record { cause = refl; named = refl; at = refl; within = f.first })
-
 -- ---- a line's cells, one after the other
 
 -- bytes before bytes before a row are both before it
@@ -166,17 +145,6 @@ pub record Filled (s : List ℕ) (at first k : ℕ) (before : List ℕ) (n : ℕ
   pub within : place ≤ length s
   pub few : i ≤ k
   pub most : end ≤ n + 4 * i
-
--- before the first cell
-pub filled_none : (s : List ℕ) (at first k : ℕ) (o : List ℕ) (n : ℕ) → at ≤ length s → Filled s at first k o n o 0 at n
-filled_none s at first k o n l = record {
-  bytes = [];
-  put = put_none o n;
-  rest = (let y : k ≡ k - 0 = omega arith in let z : first ≡ first + 0 = omega arith in ap₂ (λ (j c : ℕ). cells_from j s at c) y z);
-  within = l;
-  few = omega arith;
-  most = omega arith;
-}
 
 module _ {s : List ℕ} {at first k : ℕ} {before : List ℕ} {n : ℕ} {now : List ℕ} {i place end : ℕ}
     (f : Filled s at first k before n now i place end) (room : n + 4 * k ≤ length before) where

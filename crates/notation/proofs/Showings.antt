@@ -7,20 +7,14 @@ use native.Mathlib.Omega.{arith}
 use borrow.Author.Tests.{le-ltb}
 use lib.ListN.{length, take, replicate}
 use Rattle.io.specs.Counts.{IsPrefixLen}
-use Rattle.table.specs.declared.Shape.{Shape}
-use Rattle.table.specs.declared.Refusal.{Refusal}
-use Rattle.table.specs.Reading.{Reading}
-use Rattle.std.specs.Prelude.{Ok, Err}
-use Rattle.table.specs.Reading.{read_table}
 use Rattle.words.specs.Text.{decimal, joined, fitted}
-use Rattle.words.specs.Refusing.{refusal_line}
 use Rattle.words.specs.Writing.{Put}
 use Rattle.words.specs.Sheet.{Sheet, onward}
 use Rattle.words.proofs.Pages.{onward_on, onward_none, room_onward}
 use Rattle.words.proofs.Puts.{put_counts}
 use Rattle.words.proofs.Words.{joined_more}
 use Rattle.notation.specs.Columns.{width, field_at}
-use Rattle.notation.specs.Showing.{padded, cell_text, row_text, rows_text, table_text, shown_by, shown}
+use Rattle.notation.specs.Showing.{padded, cell_text, row_text, rows_text}
 
 -- ---- a value in its column
 
@@ -82,16 +76,6 @@ rows_more s c k from size n =
     ∙ sym (joined_more (λ (j : ℕ). row_text s c k (from + size * j)) n 0)
 
 -- ---- the whole text
-
--- what an accepted table is shown as
-pub shown_accepted : (s : List ℕ) (h : Shape) → read_table s ≡ Ok h → table_text s h.tasks h.uses_at h.uses ≡ shown s
-unfolding shown
-shown_accepted s h e = sym (ap (λ (x : Reading). shown_by x s) e)
-
--- what a refused table is shown as
-pub shown_refused : (s : List ℕ) (f : Refusal) → read_table s ≡ Err f → refusal_line f ≡ shown s
-unfolding shown
-shown_refused s f e = sym (ap (λ (x : Reading). shown_by x s) e)
 
 -- a text put at the front of a buffer that has room for the most that is ever put
 pub fitted_put : (most : ℕ) (o t u after : List ℕ) (r : ℕ) → most ≤ length o → t ≡ u → Put o 0 t after r → Put o 0 (fitted most (length o) u) after r × IsPrefixLen r after

@@ -15,7 +15,7 @@ use Rattle.notation.specs.Kinds.{column_count, record_size}
 use Rattle.notation.specs.Numbered.{Fault}
 use Rattle.notation.specs.Faults.{expected, between, limit, word_text, opening, middle, closing, reason_text, whole_text, fault_text, fault_line}
 use Rattle.notation.specs.Packing.{longest}
-use Rattle.notation.proofs.Naming.{chosen}
+use Rattle.notation.proofs.Choosing.{chosen}
 use Rattle.notation.specs.Showing.{heading, padded, spacing, cell_text, row_text, rows_text, table_text}
 
 -- ---- a cell

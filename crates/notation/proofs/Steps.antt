@@ -6,7 +6,6 @@ use native.Mathlib.Numerals.{add-one}
 use native.Mathlib.Omega.{arith}
 use lib.ListN.{length, take, set, length-append, length-set}
 use lib.Seq.{take-suc-set, take-set-le, length-take-le}
-use Rattle.table.specs.Replies.{why_number}
 use Rattle.table.specs.Reading.{Reading}
 use Rattle.std.specs.Prelude.{Ok, Err}
 use Rattle.table.specs.declared.Refusal.{Refusal}
@@ -18,7 +17,6 @@ use Rattle.notation.specs.declared.stepping.Position.{Position}
 use Rattle.notation.specs.declared.rows.Taken.{Taken}
 use Rattle.notation.specs.Numbered.{Packed, Faulty, fault_of}
 use Rattle.notation.specs.Packing.{Outcome, whole, packed, past, ended, end_of, judged}
-use Rattle.notation.specs.Reasons.{Reason, reason_at}
 use Rattle.notation.specs.Stepping.{Ready, Judgeable, Stepped, PackedTo, judged_of}
 
 -- an end behind the first n bytes of a buffer
@@ -105,24 +103,4 @@ module _ (s : List ℕ) (w : Position) (b : List ℕ) (taken : Taken) (ready : R
           line = omega (arith, ready.line, g.at, at, line);
         };
         further = omega (arith, g.at, at);
-      })
-
-  -- it does not: the reason
-  pub judge_over : (r : Reading) (f : Refusal) (why : Reason) (fault : NamedFault) → r ≡ read_table (take (taken.count + 1) (set b taken.count 3)) → r ≡ Err f
-      → why ≡ reason_at (take taken.count (set b taken.count 3)) w.count w.tasks (why_number f.why)
-      → fault_of fault ≡ record { line = w.line; cause = why.cause; column = 11; at = 0; value = why.value; other = why.other }
-      → Stepped s w (judged_of s w taken b) (set b taken.count 3) (Err fault)
-  judge_over r f why fault told known e is =
-      let n = taken.count in
-      let front = take n b in
-      let reads : read_table (front ++ 3 ∷ []) ≡ Err f = ap read_table (sym (ended_front b n judge_room)) ∙ sym told ∙ known in
-      let meant : why ≡ reason_at front w.count w.tasks (why_number f.why) =
-      e ∙ ap (λ (x : List ℕ). reason_at x w.count w.tasks (why_number f.why)) (take-set-le n b n 3 (omega arith)) in
-      subst (λ (x : Reading). Stepped s w (judged x s w taken.at front) (set b n 3) (Err fault)) (sym reads)
-      (record {
-        same = ap Faulty is
-            ∙ ap (λ (x : Reason). Faulty (record { line = w.line; cause = x.cause; column = 11; at = 0; value = x.value; other = x.other })) meant;
-        front = refl;
-        count = refl;
-        few = omega arith;
       })

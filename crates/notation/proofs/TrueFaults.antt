@@ -20,7 +20,7 @@ use Rattle.notation.specs.Rows.{Cell, Row, number_at, cell_at, cells_from, row_a
 use Rattle.notation.specs.Reasons.{Reason, reason}
 use Rattle.notation.specs.Packing.{longest, Outcome, faulty, whole, Step, on, over, past, judged, line_step, ended, end_of, step_at, onward, pack_from, start, pack_text, pack_into}
 use Rattle.notation.specs.Truths.{Told, SoFar, Before, none, line, TrueFault}
-use Rattle.notation.proofs.Naming.{chosen}
+use Rattle.notation.proofs.Choosing.{chosen}
 use Rattle.notation.proofs.Truths.{told}
 
 -- ---- a line's own faults have the causes 1 to 6

@@ -15,7 +15,7 @@ use Rattle.held.proofs.Laying.{word_back}
 use Rattle.words.specs.Finding.{word_start, word_of, run_end, same, is_number, value_of}
 use Rattle.notation.specs.Columns.{name, least, most, wide, value_bytes}
 use Rattle.notation.specs.Rows.{Cell, Row, no_row, after, no_cell, with_cell, number_at, cell_at, cells_from, row_at}
-use Rattle.notation.proofs.Naming.{chosen}
+use Rattle.notation.proofs.Choosing.{chosen}
 
 -- ---- a cell
 

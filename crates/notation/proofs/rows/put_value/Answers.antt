@@ -5,16 +5,10 @@ use Rattle.notation.specs.Columns.{column_number}
 use Rattle.notation.proofs.Rowing.{put_wide, put_narrow}
 use Rattle.notation.proofs.rows.put_value.Goals as goal
 
-pub returns-then-is_wide : goal.returns-then-is_wide
-returns-then-is_wide c =
-    record {
-      put = put_wide c.args.records.now c.args.at (column_number c.args.column) c.args.value _ c.requires (sym c.is_wide.ensures ∙ c.if-is_wide.true) c.put_word.ensures;
-      upper_bound = omega arith;
-    }
+pub returns-then-is_wide-clause-put : goal.returns-then-is_wide-clause-put
+returns-then-is_wide-clause-put c =
+    put_wide c.args.records.now c.args.at (column_number c.args.column) c.args.value _ c.requires (sym c.is_wide.ensures ∙ c.if-is_wide.true) c.put_word.ensures
 
-pub returns-else-is_wide : goal.returns-else-is_wide
-returns-else-is_wide c =
-    record {
-      put = put_narrow c.args.records.now c.args.at (column_number c.args.column) c.args.value (omega (arith, c.requires)) (sym c.is_wide.ensures ∙ c.if-is_wide.false);
-      upper_bound = omega arith;
-    }
+pub returns-else-is_wide-clause-put : goal.returns-else-is_wide-clause-put
+returns-else-is_wide-clause-put c =
+    put_narrow c.args.records.now c.args.at (column_number c.args.column) c.args.value (omega (arith, c.requires)) (sym c.is_wide.ensures ∙ c.if-is_wide.false)

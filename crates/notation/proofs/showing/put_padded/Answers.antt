@@ -24,12 +24,6 @@ spelled c =
     (count.ensures.digits ∙ decimal_spelled count.result c.from.result (omega (arith, c.ranges, c.from.ensures)) count.ensures.len ∙ ap decimal c.from.ensures)
     (omega (arith, c.saturating_sub-missing.ensures, c.width.ensures.0, long)) (omega (arith, c.saturating_sub-missing.ensures, c.width.ensures.1))
 
-pub text-requires : goal.text-requires
-text-requires c =
-    let spaces = take (c.saturating_sub-missing.result + 1) eight in
-    let digits = take c.decimal-count.result c.decimal-count.new.out in
-    omega (arith, c.requires, ap length (spelled (goal.at.text-requires c).After-saturating_sub-missing), length-append spaces digits)
-
 pub text-requires-2 : goal.text-requires-2
 text-requires-2 c =
     let spaces = take (c.saturating_sub-missing.result + 1) eight in

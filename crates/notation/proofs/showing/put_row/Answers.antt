@@ -1,10 +1,9 @@
 -- What is left of `notation::showing::put_row`.
 use Prim.Native.Nat.{ℕ}
-use mathlib.Core.Path.{◌≡◌, ap, ◌∙◌}
+use mathlib.Core.Path.{ap, ◌∙◌}
 use mathlib.Core.List.{◌++◌}
 use native.Mathlib.Omega.{arith}
 use lib.ListN.{get_or}
-use Rattle.words.specs.Sheet.{onward}
 use Rattle.words.specs.Pages.{sheet}
 use Rattle.notation.specs.declared.columns.Column.TheVariants.{Task}
 use Rattle.notation.specs.Columns.{column_number, field_at}
@@ -36,10 +35,3 @@ loop-column-preserved c =
     (ap (λ (v : ℕ). row_text s first i c.args.place ++ cell_text (column_number (get_or c.columns-column-items.result.now i Task)) v) c.field_at.ensures
     ∙ ap (λ (k : ℕ). row_text s first i c.args.place ++ cell_text k (field_at s c.args.place k)) there
     ∙ row_more s first i c.args.place)
-
-pub returns : goal.returns
-returns c =
-    let first = first_column c.args.kind in
-    let many = columns_many _ first (column_count c.args.kind) c.columns-column-items.ensures in
-    let all : c.loop-column.column-index ≡ column_count c.args.kind = omega (arith, many, c.loop-column-test.false, c.loop-column.auto) in
-    c.loop-column.invariant ∙ ap (λ (k : ℕ). onward (sheet c.args.page.now) (row_text c.args.bytes.now first k c.args.place)) all
