@@ -1,21 +1,31 @@
-// Why a call is refused.
+// The refusals of calls.
 ghost use Rattle.std.specs.Prelude.{◌≡◌};
 ghost use Rattle.arrays.specs.Denials.{denial_number};
 
-// No task has the priority; its job is unfinished; another number than the running job's; no use of the resource; a section held, or 16 open; N
-// reached; another resource than the one held; a section held; X reached; no sleeping job has the number; an unfit state.
+// Why a call is refused.
 #[derive(Clone, Copy, PartialEq, Eq, Debug)]
 pub enum Denial {
+    // no task has the priority
     NoTask,
+    // its job is unfinished
     Unfinished,
+    // the running job has another number
     Stranger,
+    // the task has no use of the resource
     NoUse,
+    // the job holds a section, or 16 are open
     Held,
+    // the job has opened N sections of the resource
     Reached,
+    // the job holds no section of the resource
     NotHeld,
+    // the job holds a section
     Inside,
+    // the job has slept X times
     Sleepless,
+    // no job sleeps under the number
     NoSleeper,
+    // the state is unfit
     Unfit,
 }
 

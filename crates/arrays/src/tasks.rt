@@ -58,7 +58,7 @@ impl Tasks {
         false
     }
 
-    // Whether there are at most 32 tasks, each setting below its priority.
+    // Whether there are at most 32 tasks, each setting below its priority. All are looked at, so that the loop becomes wide instructions.
     pub fn are_fit(&self) -> bool
         ensures { result ≡ nat_le self.now.count 32 && all (setting_below (tasks_of self.now)) self.now.count }
     {

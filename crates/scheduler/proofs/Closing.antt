@@ -3,7 +3,6 @@ use Rattle.std.proofs.Common.{◌≡◌, ℕ, zero, suc, ◌-◌, ◌<◌, Bool,
 use mathlib.Core.Path.{fun_ext}
 use native.Mathlib.Decide.{dec_lt}
 use Rattle.searches.specs.Searches.{at, first}
-use Rattle.searches.proofs.Searching.{first_found}
 use Rattle.protocol.specs.State.{ready, Entry, is_waiting}
 use Rattle.protocol.specs.Running.{top}
 use Rattle.protocol.specs.Checks.{unlock}
@@ -14,12 +13,10 @@ use Rattle.arrays.specs.Stores.{Removed, Woken}
 use Rattle.scheduler.specs.declared.Scheduler.{Scheduler}
 use Rattle.scheduler.specs.View.{table_of, entry_of, state_of}
 use Rattle.scheduler.specs.Beside.{Beside}
-use Rattle.scheduler.specs.Replies.{number_for}
-use Rattle.scheduler.proofs.Written.{number_kept}
 use Rattle.scheduler.proofs.Storing.{stored}
 use Rattle.scheduler.proofs.Ends.{Done}
 use Rattle.scheduler.proofs.Asking.{Grants}
-use Rattle.scheduler.proofs.Removing.{is_there, section_removed, slot_removed}
+use Rattle.scheduler.proofs.Removing.{is_there, section_removed}
 
 -- ---- waking
 
@@ -36,15 +33,6 @@ woken_status : (e : Entry) (n : ℕ) (d : Bool) → status_of n ≡ e.status →
 woken_status e n true q = refl
 woken_status e n false q = ap (λ x. become x e) q
 
--- and is right beside the number before
-woken_right : (n : ℕ) (d : Bool) → cond (is_waiting (status_of n) && d) 1 n ≡ number_for n (status_of (cond (is_waiting (status_of n) && d) 1 n))
-woken_right zero d = refl
-woken_right (suc zero) d = refl
-woken_right (suc (suc zero)) true = refl
-woken_right (suc (suc zero)) false = refl
-woken_right (suc (suc (suc zero))) d = refl
-woken_right (suc (suc (suc (suc n)))) d = refl
-
 module _ (s : Scheduler) (states : List ℕ) (c : ℕ) (W : Woken s.entries.states s.tasks.priorities c s.tasks.count states) where
   -- the entries after it are the machine's
   woken_entry : (k : ℕ) → become (status_of (get_or states k 0)) (entry_of s k) ≡ woken (table_of s) c (entry_of s) k
@@ -56,16 +44,6 @@ module _ (s : Scheduler) (states : List ℕ) (c : ℕ) (W : Woken s.entries.stat
           (woken_status (entry_of s k) (get_or s.entries.states k 0)
           (is_waiting (status_of (get_or s.entries.states k 0)) && ltb c (get_or s.tasks.priorities k 0)) refl)
       go (no h) = rw (W.past k (omega arith), le-ltb k s.tasks.count (omega arith))
-
-  -- with right numbers
-  woken_numbers : (k : ℕ) → get_or states k 0 ≡ number_for (get_or s.entries.states k 0) (status_of (get_or states k 0))
-  woken_numbers k = go (dec_lt k s.tasks.count)
-    where
-      go : Dec (k < s.tasks.count) → get_or states k 0 ≡ number_for (get_or s.entries.states k 0) (status_of (get_or states k 0))
-      go (yes h) =
-          rw (W.before k h, waiting_number (get_or s.entries.states k 0))
-          (woken_right (get_or s.entries.states k 0) (ltb c (get_or s.tasks.priorities k 0)))
-      go (no h) = rw (W.past k (omega arith)) (number_kept (get_or s.entries.states k 0))
 
 -- ---- closing
 
@@ -94,17 +72,6 @@ module _ {s : Scheduler} {i r k : ℕ} {o : Sections} {states : List ℕ} (C : C
       section_removed p q i r n k o.places o.resources C.places C.resources C.found ∙ ap (sections_by o.places o.resources) (sym C.count) in
       rw (is_there p q i r n k o.places o.resources C.places C.resources C.found, gone)
       (ap (λ f. record { entry = f; sections = sections_of o }) (fun_ext (woken_entry s states (top T 0 (sections_of o)) C.wakes)))
-
-  -- and what the view doesn't show is as it should be
-  pub closes_beside : Beside s after
-  closes_beside =
-      let inside = (first_found (is_section s.sections.places s.sections.resources i r) s.sections.count k C.found).0 in
-      record {
-        same = refl;
-        numbers = woken_numbers s states (top (table_of s) 0 (sections_of o)) C.wakes;
-        places = λ j g. slot_removed s.sections.places o.places k s.sections.count inside C.places j (omega (arith, C.count));
-        resources = λ j g. slot_removed s.sections.resources o.resources k s.sections.count inside C.resources j (omega (arith, C.count));
-      }
 
 -- ---- the call
 

@@ -2,7 +2,7 @@
 use mathlib.Core.Path.{◌≡◌, refl, sym, ap, ap₂, ◌∙◌}
 use mathlib.Core.Bool.{Bool, true, false, cond}
 use mathlib.Core.List.{List}
-use Prim.Native.Nat.{ℕ, suc, ◌+◌, ◌*◌, ◌-◌, ◌/◌, ◌%◌, ◌≤◌, ◌<◌}
+use Prim.Native.Nat.{ℕ, suc, ◌+◌, ◌*◌, ◌-◌, ◌/◌, ◌%◌, ◌<◌}
 use native.Mathlib.Omega.{arith}
 use native.Mathlib.Decide.{ℕ_discrete, dec_lt}
 use lib.Dec.{ltb, eqb}
@@ -139,22 +139,13 @@ module _ (s : List ℕ) (h : Shape) (W : WellFormed s h) (j : ℕ) (lt : j < h.u
       place_is : place ≡ user
       place_is = let z : h.tasks - 0 ≡ h.tasks = omega arith in ep ∙ ap₂ (λ n x. place_from n s 0 x.priority) z eu
 
-      pub place_low : place < 32
-      place_low = omega (arith, place_is, W.owned j lt, W.tasks_most)
-
       -- its resource
       resource_is : r ≡ resource
       resource_is = er ∙ ap (λ x. x.resource) eu
 
-      pub resource_low : 1 ≤ r
-      resource_low = omega (arith, resource_is, (W.use_range j lt).resource)
-
       -- and the slot of both
       slot_is : place * 16 + (r - 1) ≡ user * 16 + (resource - 1)
       slot_is = omega (arith, place_is, resource_is)
-
-      pub slot_low : place * 16 + (r - 1) < 512
-      slot_low = omega (arith, slot_is, slot_inside)
 
       pub times_next : set (times_by s h.tasks h.uses_at j) (place * 16 + (r - 1)) u.times ≡ times_by s h.tasks h.uses_at (j + 1)
       times_next = rw slot_is (times_more u.times (ap (λ x. x.times) eu))

@@ -4,11 +4,9 @@ use mathlib.Core.Bool.{Bool, true, false, ◌||◌, or-false, or_assoc}
 use mathlib.Core.List.{List, [], ◌∷◌, ◌++◌}
 use Prim.Native.Nat.{ℕ, zero, suc, ◌-◌, ◌≤◌, ◌<◌}
 use native.Mathlib.Omega.{arith}
-use native.Mathlib.Decide.{ℕ_discrete, dec_lt}
-use lib.Dec.{leb}
+use native.Mathlib.Decide.{ℕ_discrete}
 use lib.ListN.{get_or}
-use borrow.Author.Tests.{le-leb, lt-leb}
-use Rattle.searches.specs.Searches.{Place, nowhere, at, or_else, if_here, first, only}
+use Rattle.searches.specs.Searches.{Place, nowhere, at, or_else, if_here, first}
 use Rattle.protocol.specs.State.{Section}
 use Rattle.protocol.specs.Acting.{section, same, has, skip, without}
 use Rattle.searches.proofs.Testing.{impossible}
@@ -137,13 +135,3 @@ module _ (p r : List ℕ) (i x : ℕ) where
           let w : suc (n - 1) ≡ n = omega (arith, slot.0) in
           subst (λ y. without (section i x) (sections_by p r y) ≡ sections_by a b (n - 1)) w
           (removed (n - 1) (omega (arith, slot.0)) (omega (arith, slot.0)))
-
--- ---- the slots past the open sections
-
--- the vacated slot is 0, and those past it stay
-pub slot_removed : (a b : List ℕ) (k n : ℕ) → k < n → Removed a k n b → (j : ℕ) → n - 1 ≤ j → get_or b j 0 ≡ only (leb n j) (get_or a j 0)
-slot_removed a b k n lt R j h = go (dec_lt j n)
-  where
-    go : Dec (j < n) → get_or b j 0 ≡ only (leb n j) (get_or a j 0)
-    go (yes g) = rw (lt-leb n j g) (R.last j (omega arith) (omega arith))
-    go (no g) = rw (le-leb n j (omega arith)) (R.past j (omega arith))

@@ -8,8 +8,7 @@ pub returns-clause-cleared : goal.returns-clause-cleared
 returns-clause-cleared c =
     let a = c.args.self.now.opened in
     let i = c.args.place in
-    let n : i * 16 + 16 - i * 16 ≡ 16 = omega arith in
+    let n = i * 16 + 16 - i * 16 in
     let long : length a ≡ 512 = search rules in
-    let m : length (mid_of (i * 16) (i * 16 + 16 - i * 16) a) ≡ 16 =
-    simp (length-take, length-drop) (omega arith) in
-    rw n (cleared a c.fill.new.self i c.requires long (c.fill.ensures.after (λ y e. e) ∙ ap (λ k. replicate k 0) m))
+    let part : length (mid_of (i * 16) n a) ≡ n = simp (length-take, length-drop) (omega arith) in
+    cleared a c.fill.new.self i n c.requires long (omega arith) (c.fill.ensures.after (λ y e. e) ∙ ap (λ k. replicate k 0) part)
