@@ -7,7 +7,7 @@ use Rattle.searches.proofs.Indexed.{length_every, every_at}
 use Rattle.table.specs.declared.Shape.{Shape}
 use Rattle.table.specs.declared.Task.{Task}
 use Rattle.table.specs.WellFormed.{task_of, WellFormed}
-use Rattle.rounds.specs.System.{System, size, deadline}
+use Rattle.rounds.specs.System.{System, size, deadline, Lawful}
 use Rattle.rounds.proofs.VectorLaws.{⊑_refl}
 use Rattle.equations.specs.declared.Equations.{Equations}
 use Rattle.equations.specs.declared.Query.{Query}
@@ -33,6 +33,10 @@ module _ (s : List ℕ) (h : Shape) (settings : List ℕ) (w : WellFormed s h) w
   pub deadline_is : (i : ℕ) → i < h.tasks → (task_of s i).deadline ≡ deadline (equations_of s h settings) i
   deadline_is i l = sym (every_at (λ i. (task_of s i).deadline) h.tasks i 0 l)
 
+-- the code's equations are lawful
+pub lawful_in : (E : Equations) → Lawful (equations_in E)
+lawful_in E = table_lawful E.table.bytes.now E.table.shape E.settings.now E.table.well_formed
+
 module _ (E : Equations) (v : List ℕ) (kept : KeptUses) (q : Query) (g : Solvable E v kept q) where
   abbrev S : System
   S = equations_in E
@@ -49,10 +53,10 @@ module _ (E : Equations) (v : List ℕ) (kept : KeptUses) (q : Query) (g : Solva
 
   -- where t starts: not above the right side there
   start_above : S.start q.task ≤ S.side q.task v (S.start q.task)
-  start_above = (table_lawful E.table.bytes.now E.table.shape E.settings.now E.table.well_formed).above q.task placed v (S.start q.task)
+  start_above = (lawful_in E).above q.task placed v (S.start q.task)
 
   pub side_rises : (a b : ℕ) → a ≤ b → S.side q.task v a ≤ S.side q.task v b
-  side_rises a b l = (table_lawful E.table.bytes.now E.table.shape E.settings.now E.table.well_formed).rises q.task placed v v a b (⊑_refl v) l
+  side_rises a b l = (lawful_in E).rises q.task placed v v a b (⊑_refl v) l
 
   -- the solver's loop begins at C + S
   pub begins : (made allowance : ℕ) → made ≤ allowance

@@ -24,8 +24,7 @@ use Rattle.rounds.specs.RoundLoop.{Turned}
 use Rattle.rounds.proofs.RoundLoop.{turned_over, turned_next, turned_answer, turned_end}
 use Rattle.analysis.specs.declared.solver.Reply.{Reply}
 use Rattle.analysis.specs.Rounding.{bounded, progress, Lowers, Marks, Left}
-use Rattle.equations.proofs.Accepted.{table_lawful}
-use Rattle.analysis.proofs.Table.{table_size, deadline_is}
+use Rattle.analysis.proofs.Table.{table_size, deadline_is, lawful_in}
 
 module _ (E : Equations) where
   -- there is an equation for each task
@@ -45,7 +44,7 @@ module _ (E : Equations) where
     way_floor : (j : ℕ) → j < E.table.shape.tasks → (task_of E.table.bytes.now j).run ≤ get_or v j 0
     way_floor j l =
         let r = E.table.well_formed.task_range j l in
-        on_way_floor (equations_in E) (table_lawful E.table.bytes.now E.table.shape E.settings.now E.table.well_formed) v way j (rw sized l)
+        on_way_floor (equations_in E) (lawful_in E) v way j (rw sized l)
         (task_of E.table.bytes.now j).run (omega arith)
         (omega (arith, deadline_is E.table.bytes.now E.table.shape E.settings.now E.table.well_formed j l, r.run_within))
 
@@ -87,7 +86,7 @@ module _ (E : Equations) (v : List ℕ) (origin : Progress) (allowance i made : 
         → Standing E.table.shape.tasks (equations_in E) origin allowance (i + 1) (progress u r.evaluations) (flag || raised) (set bounds i b)
     next_turn r whole few b e long u raised low =
         let turned = turned_next (equations_in E) origin allowance i (progress v made) flag g.turned
-        (table_lawful E.table.bytes.now E.table.shape E.settings.now E.table.well_formed) inside
+        (lawful_in E) inside
         (record { answer = answer_of r.bound; evaluations = r.evaluations }) whole few in
         let told = turned_answer (equations_in E) origin allowance i (progress v made) flag g.turned
         (record { answer = answer_of r.bound; evaluations = r.evaluations }) whole in

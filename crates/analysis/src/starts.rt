@@ -30,7 +30,7 @@ pub fn deadlines(table: &Table, vector: &mut [u64])
     }
 }
 
-impl<'a> Rounds<'a> {
+impl Rounds<'_> {
     // The rounds, from the deadlines on.
     pub fn settle(&self, vector: &mut [u64], bounds: &mut [bool; 32]) -> Result<u64, Spent>
         requires vector_len { length vector.old ≡ self.now.equations.table.shape.tasks }

@@ -44,7 +44,7 @@ fn lower(vector: &mut [u64], i: usize, bound: Option<u64>) -> bool
     }
 }
 
-impl<'a> Rounds<'a> {
+impl Rounds<'_> {
     // A round: a turn for each task, by falling priority. It also marks which tasks have a bound.
     pub fn one_round(
         &self,

@@ -135,14 +135,14 @@ module _ (s : List ℕ) (h : Shape) (w : WellFormed s h) (bytes : (j : ℕ) → 
   )
 
   -- they are small, and so is B0
-  pub sums_most : (p : Sums) → p ≡ sums_of s v kept n q.sleeps t → (p.less ≤ 64000000) × (p.more ≤ 65000000)
+  sums_most : (p : Sums) → p ≡ sums_of s v kept n q.sleeps t → (p.less ≤ 64000000) × (p.more ≤ 65000000)
   sums_most p e =
       let few = sleeps_most in (
         omega (arith, ap (λ (a : Sums). a.less) e, bag_most 1000000 q.sleeps n (lengths_in kept) (times_in s v kept t) kept_short),
         omega (arith, ap (λ (a : Sums). a.more) e, bag_most 1000000 (q.sleeps + 1) n (lengths_in kept) (times_in s v kept t) kept_short),
       )
 
-  pub extra_most : q.extra ≤ 1000000
+  extra_most : q.extra ≤ 1000000
   unfolding extra
   extra_most =
       let W = view_of s h settings in
@@ -154,6 +154,14 @@ module _ (s : List ℕ) (h : Shape) (w : WellFormed s h) (bytes : (j : ℕ) → 
         largest_below (λ k. cond (counts k) (used k).length 0) h.uses 1000000
             (λ k l. le_trans (part_most (counts k) (used k).length) (w.use_range k l).length_most),
       )
+
+  -- all parts of the right side are small
+  pub parts_most : (p : Sums) → p ≡ sums_of s v kept n q.sleeps t
+      → (p.less ≤ 64000000) × (p.more ≤ 65000000) × (q.extra ≤ 1000000) × ((task_of s q.task).run ≤ 1000000) × ((task_of s q.task).sleep ≤ 1000000)
+  parts_most p e =
+      let sums = sums_most p e in
+      let own = w.task_range q.task g.ready.task in
+      (sums.0, sums.1, extra_most, omega (arith, own.run_within, own.deadline_within, own.period), own.sleep)
 
   -- all together
   pub side_is : (run sleep block add : ℕ) (p : Sums) → p ≡ sums_of s v kept n q.sleeps t → run ≡ word_at s (20 * q.task + 4) → sleep ≡ word_at s (20 * q.task + 8)

@@ -38,6 +38,7 @@ fn uses_from(table: &Table, least: u64) -> usize
 {
     let mut low = 0;
     let mut size = table.shape.uses;
+    // halves of what is left, which no `for` counts; `partition_point` of std wants a slice of uses, and these are bytes
     while 0 < size {
         let half = (size + 1) / 2;
         low = beyond(table, least, low, half);
@@ -46,7 +47,7 @@ fn uses_from(table: &Table, least: u64) -> usize
     low
 }
 
-impl<'a> Equations<'a> {
+impl Equations<'_> {
     // The length of use k, where its resource's ceiling is not below the priority, else 0.
     fn reaching_length(&self, k: usize, priority: u8) -> u64
         requires { k < self.now.table.shape.uses }

@@ -16,7 +16,7 @@ pub struct Found {
     pub rows: [Row; 32],
 }
 
-// The number of an answer: 0 for none, 1 for a bound, 2 for a conditional value.
+// The number of an answer: 0 for none, 1 for a bound, 2 for a conditional value. C hosts read it in their rows; a `From` is for a type of this crate.
 fn number_of(answer: TaskAnswer) -> u8
     ensures { result ≡ answer_number answer }
 {
