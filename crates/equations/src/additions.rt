@@ -33,7 +33,7 @@ impl Equations<'_> {
     {
         let higher = self.table.task(j);
         let run = u64::from(higher.run);
-        // by the total reader: with `self.table.task(at.task).priority` a right side under 16 higher tasks takes 458 instructions in place of 431
+        // by the total reader: with `self.table.task(at.task).priority` a right side under 16 higher tasks takes 458 instructions in place of 433
         if table::byte_at(self.table.bytes, 20 * at.task + 1) <= self.settings[j] {
             return charged(at.length, run, u64::from(higher.sleep), higher.period);
         }
