@@ -1,10 +1,8 @@
 -- What is seen by numbers loses nothing: the code's cause, column, fault and answer are found again from their numbers.
-use Prim.Native.Nat.{ℕ, ◌+◌, ◌≤◌, ◌<◌}
+use Prim.Native.Nat.{ℕ, ◌+◌, ◌-◌, ◌≤◌, ◌<◌}
 use mathlib.Core.Path.{◌≡◌, refl, sym, ap, ap₂, ◌∙◌}
-use mathlib.Core.Bool.{cond}
-use mathlib.Core.List.{List, map}
+use mathlib.Core.List.{List, [], ◌∷◌, map}
 use native.Mathlib.Omega.{arith}
-use lib.Dec.{eqb}
 use lib.ListN.{length, get_or, length-map, get_or-map}
 use Rattle.std.proofs.Common.{Option, Some, None, Result, Ok, Err}
 use Rattle.std.specs.List.{range_with_len}
@@ -40,31 +38,19 @@ use Rattle.notation.specs.Numbered.{Fault, Packing, Packed, Faulty, fault_of, pa
 
 -- ---- causes
 
+-- the causes in the order of their numbers
+abbrev causes : List Cause
+causes =
+    FirstWord ∷ OtherName ∷ NoNumber ∷ BelowRange ∷ AboveRange ∷ MoreWords
+    ∷ SettingHigh ∷ Sleepless ∷ RunHigh ∷ DeadlineHigh ∷ OneTooMany ∷ AfterUse ∷ NotBelow ∷ OfNoTask ∷ OutOfOrder ∷ PastRun
+    ∷ NoTask ∷ TooLong ∷ NoRoom ∷ []
+
 -- the cause that has a number
-unfoldable pub cause_of : ℕ → Cause
-cause_of n =
-    cond (eqb n 1) FirstWord
-    (cond (eqb n 2) OtherName
-    (cond (eqb n 3) NoNumber
-    (cond (eqb n 4) BelowRange
-    (cond (eqb n 5) AboveRange
-    (cond (eqb n 6) MoreWords
-    (cond (eqb n 7) SettingHigh
-    (cond (eqb n 8) Sleepless
-    (cond (eqb n 9) RunHigh
-    (cond (eqb n 10) DeadlineHigh
-    (cond (eqb n 11) OneTooMany
-    (cond (eqb n 12) AfterUse
-    (cond (eqb n 13) NotBelow
-    (cond (eqb n 14) OfNoTask
-    (cond (eqb n 15) OutOfOrder
-    (cond (eqb n 16) PastRun
-    (cond (eqb n 17) NoTask
-    (cond (eqb n 18) TooLong NoRoom)))))))))))))))))
+abbrev pub cause_of : ℕ → Cause
+cause_of n = get_or causes (n - 1) FirstWord
 
 -- each cause is found again
 pub cause_again : (c : Cause) → cause_of (cause_number c) ≡ c
-unfolding cause_of
 cause_again FirstWord = refl
 cause_again OtherName = refl
 cause_again NoNumber = refl
@@ -109,24 +95,16 @@ cause_some NoRoom = omega arith
 
 -- ---- columns
 
+-- the columns in the order of their numbers
+abbrev columns : List Column
+columns = Task ∷ Setting ∷ Sleeps ∷ Run ∷ Sleep ∷ Deadline ∷ Period ∷ Use ∷ Resource ∷ Times ∷ Length ∷ []
+
 -- the column that has a number, if one has
-unfoldable pub column_of : ℕ → Option Column
-column_of n =
-    cond (eqb n 0) (Some Task)
-    (cond (eqb n 1) (Some Setting)
-    (cond (eqb n 2) (Some Sleeps)
-    (cond (eqb n 3) (Some Run)
-    (cond (eqb n 4) (Some Sleep)
-    (cond (eqb n 5) (Some Deadline)
-    (cond (eqb n 6) (Some Period)
-    (cond (eqb n 7) (Some Use)
-    (cond (eqb n 8) (Some Resource)
-    (cond (eqb n 9) (Some Times)
-    (cond (eqb n 10) (Some Length) None))))))))))
+abbrev pub column_of : ℕ → Option Column
+column_of n = get_or (map Some columns) n None
 
 -- each column, and none, is found again
 pub column_again : (c : Option Column) → column_of (column_or_none c) ≡ c
-unfolding column_of
 column_again None = refl
 column_again (Some Task) = refl
 column_again (Some Setting) = refl
@@ -141,15 +119,15 @@ column_again (Some Times) = refl
 column_again (Some Length) = refl
 
 -- of columns whose numbers follow each other there are as many as numbers
-pub columns_many : (columns : List Column) (first k : ℕ) → map column_number columns ≡ range_with_len first k → length columns ≡ k
-columns_many columns first k e = sym (length-map columns column_number) ∙ ap length e ∙ length-range_with_len first k
+pub columns_many : (some : List Column) (first k : ℕ) → map column_number some ≡ range_with_len first k → length some ≡ k
+columns_many some first k e = sym (length-map some column_number) ∙ ap length e ∙ length-range_with_len first k
 
 -- of columns whose numbers follow each other, each has the number of its place
-pub number_there : (columns : List Column) (first k i : ℕ) (d : Column) → map column_number columns ≡ range_with_len first k → i < length columns
-    → column_number (get_or columns i d) ≡ first + i
-number_there columns first k i d e h =
-    let n : i < k = omega (arith, columns_many columns first k e) in
-    sym (get_or-map column_number columns i d) ∙ ap (λ (l : List ℕ). get_or l i (column_number d)) e ∙ get_or-range_with_len first k i (column_number d) n
+pub number_there : (some : List Column) (first k i : ℕ) (d : Column) → map column_number some ≡ range_with_len first k → i < length some
+    → column_number (get_or some i d) ≡ first + i
+number_there some first k i d e h =
+    let n : i < k = omega (arith, columns_many some first k e) in
+    sym (get_or-map column_number some i d) ∙ ap (λ (l : List ℕ). get_or l i (column_number d)) e ∙ get_or-range_with_len first k i (column_number d) n
 
 -- ---- faults and answers
 

@@ -3,7 +3,7 @@ ghost use Rattle.std.specs.Prelude.{◌≡◌};
 ghost use Rattle.notation.specs.Causes.{cause_number};
 
 // The causes of a fault, with their numbers in docs/NOTATION.md: 1 to 6 a word of a line, 7 to 16 a rule on records, 17 to 19 the whole.
-#[derive(Clone, Copy, PartialEq, Eq)]
+#[derive(Clone, Copy, PartialEq, Eq, Debug)]
 pub enum Cause {
     FirstWord = 1,
     OtherName = 2,

@@ -3,7 +3,7 @@ ghost use Rattle.std.specs.Prelude.{◌≡◌, ◌+◌, ◌≤◌, length};
 ghost use Rattle.notation.specs.Columns.{column_number, name, least, most, width, wide, offset, field_at};
 
 // A column: the first seven are a task's, the others a use's.
-#[derive(Clone, Copy, PartialEq, Eq)]
+#[derive(Clone, Copy, PartialEq, Eq, Debug)]
 pub enum Column {
     Task,
     Setting,

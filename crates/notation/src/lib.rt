@@ -24,7 +24,7 @@ pub use columns::Column;
 use words::Page;
 
 // A fault of a text: its line, its cause, and what that speaks of: a column, the place of a word, two values.
-#[derive(Clone, Copy, PartialEq, Eq)]
+#[derive(Clone, Copy, PartialEq, Eq, Debug)]
 pub struct Fault {
     pub line: usize,
     pub cause: Cause,
