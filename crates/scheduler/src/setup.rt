@@ -1,10 +1,9 @@
 // Setting up: the scheduler of a table's tasks, with no job yet.
 ghost use Rattle.std.specs.Prelude.{◌≡◌, ◌≤◌};
-ghost use Rattle.table.specs.WellFormed.{WellFormed};
 ghost use Rattle.scheduler.specs.Fresh.{column, all_times, fresh_with, fresh_of, empty, set_up};
 
 use crate::{Entries, Scheduler, Sections, Tasks};
-use table::{Refusal, Shape};
+use table::{Refusal, Table};
 
 // What setting up answers: no refusal where the table is accepted, else its refusal and a scheduler with no tasks.
 #[derive(Clone, Copy)]
@@ -26,16 +25,13 @@ fn column(bytes: &[u8], tasks: usize, field: usize) -> [u8; 32]
 }
 
 // N for each task and each of its sixteen resources.
-fn times(bytes: &[u8], shape: Shape) -> [u8; 512]
-    requires { WellFormed bytes.now shape }
-    ensures { result ≡ all_times bytes.now shape }
+fn times(table: &Table) -> [u8; 512]
+    ensures { result ≡ all_times table.now.bytes.now table.now.shape }
 {
-    let tasks = shape.tasks;
-    let start = shape.uses_at;
     let mut times = [0u8; 512];
-    for j in 0..shape.uses {
-        let usage = table::use_at(bytes, start + 8 * j);
-        let place = table::place_of(bytes, tasks, 0, usage.priority);
+    for j in 0..table.shape.uses {
+        let usage = table.usage(j);
+        let place = table::place_of(table.bytes, table.shape.tasks, 0, usage.priority);
         let k = usize::from(usage.resource) - 1;
         times[place * 16 + k] = usage.times;
     }
@@ -54,16 +50,16 @@ fn with_tasks(tasks: Tasks) -> Scheduler
 }
 
 // The scheduler of an accepted table.
-fn fresh(bytes: &[u8], shape: Shape) -> Scheduler
-    requires { WellFormed bytes.now shape }
-    ensures { result ≡ fresh_of bytes.now shape }
+fn fresh(table: &Table) -> Scheduler
+    ensures { result ≡ fresh_of table.now.bytes.now table.now.shape }
 {
+    let tasks = table.shape.tasks;
     with_tasks(Tasks {
-        count: shape.tasks,
-        priorities: column(bytes, shape.tasks, 1),
-        settings: column(bytes, shape.tasks, 2),
-        most: column(bytes, shape.tasks, 3),
-        uses: times(bytes, shape),
+        count: tasks,
+        priorities: column(table.bytes, tasks, 1),
+        settings: column(table.bytes, tasks, 2),
+        most: column(table.bytes, tasks, 3),
+        uses: times(table),
     })
 }
 
@@ -84,10 +80,10 @@ fn empty() -> Scheduler
 pub fn set_up(bytes: &[u8]) -> SetUp
     ensures { result ≡ set_up bytes.now }
 {
-    match table::read(bytes) {
-        Ok(shape) => SetUp {
+    match Table::read(bytes) {
+        Ok(table) => SetUp {
             refusal: None,
-            scheduler: fresh(bytes, shape),
+            scheduler: fresh(&table),
         },
         Err(refusal) => SetUp {
             refusal: Some(refusal),
