@@ -32,6 +32,7 @@ impl Rounds<'_> {
         let deadline = u64::from(task.deadline);
         let mut t = u64::from(task.run) + u64::from(task.sleep);
         let mut evaluations = made;
+        // no index is counted: t climbs until it stands or passes the deadline, and each step has a side of its own
         while t <= deadline {
             if self.allowance <= evaluations {
                 return Err(Spent);

@@ -82,6 +82,7 @@ impl Rounds<'_> {
         ensures { Settled self.now.equations.table.shape.tasks self.now.allowance (equations_in self.now.equations) vector.new bounds.new result }
     {
         let mut made = 0;
+        // no index is counted: how many rounds change a value is not known beforehand
         loop {
             match self.one_round(vector, bounds, made)? {
                 Round::Changed(evaluations) => made = evaluations,

@@ -41,7 +41,7 @@ impl Equations<'_> {
     }
 
     // What all higher tasks add.
-    pub fn additions(&self, vector: &[u64], at: At) -> u64
+    pub(crate) fn additions(&self, vector: &[u64], at: At) -> u64
         requires { Ready self.now.table.bytes.now self.now.table.shape vector.now at }
         ensures { (result ≡ additions (seen self.now) at.task vector.now at.length) × (result ≤ 64000000000000) }
     {

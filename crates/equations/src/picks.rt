@@ -65,7 +65,7 @@ impl Equations<'_> {
     }
 
     // Σ(x) and Σ(x + 1) of the bag, from one walk over the kept uses, until x + 1 sections are taken.
-    pub fn two_sums(&self, vector: &[u64], kept: &KeptUses, sleeps: u8, t: u64) -> Sums
+    pub(crate) fn two_sums(&self, vector: &[u64], kept: &KeptUses, sleeps: u8, t: u64) -> Sums
         requires { Picking self.now.table.bytes.now vector.now kept.now.words self.now.table.shape.tasks kept.now.count sleeps t }
         ensures { result ≡ sums_of self.now.table.bytes.now vector.now kept.now.words kept.now.count sleeps t }
     {

@@ -9,6 +9,7 @@ mod finding;
 use table::Refusal;
 
 // The row of a task: its priority; the number of its answer, 0 for none, 1 for a bound, 2 for a conditional value; the value, or 0; its deadline.
+// The answer is a number, since the layout is C's.
 #[repr(C)]
 #[derive(Clone, Copy, Default)]
 pub struct Row {

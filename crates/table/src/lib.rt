@@ -123,6 +123,7 @@ pub fn read(bytes: &[u8]) -> Result<Shape, Refusal>
     ensures { result ≡ read_table bytes.now }
 {
     let mut walk = Walk::start();
+    // no index is counted: how far a step goes is what the record says
     loop {
         match walk.step(bytes)? {
             Step::On(next) => walk = next,
