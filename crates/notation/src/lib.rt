@@ -15,6 +15,7 @@ mod columns;
 mod faults;
 mod kinds;
 mod reasons;
+mod refused;
 mod rows;
 mod showing;
 mod stepping;

@@ -1,12 +1,10 @@
-// Why the reader refuses a record, in words of its line.
-ghost use Rattle.std.specs.Prelude.{◌≡◌, ◌*◌, ◌≤◌, length};
-ghost use Rattle.table.specs.Replies.{why_number};
+// What is told of a record that the reader refuses.
+ghost use Rattle.std.specs.Prelude.{◌≡◌};
 ghost use Rattle.notation.specs.Causes.{cause_number};
-ghost use Rattle.notation.specs.Reasons.{reason, reason_of, range_reason, task_reason, use_reason, reason_at};
+ghost use Rattle.notation.specs.Reasons.{reason, reason_of, range_reason};
 
 use crate::causes::Cause;
-use crate::kinds::Kind;
-use table::{Task, Why, byte_at};
+use table::Task;
 
 // The cause, and the two values that show it.
 #[derive(Clone, Copy)]
@@ -17,7 +15,7 @@ pub struct Reason {
 }
 
 // A reason with two values.
-fn because(cause: Cause, value: u32, other: u32) -> Reason
+pub fn because(cause: Cause, value: u32, other: u32) -> Reason
     ensures { reason_of result ≡ reason (cause_number cause) value other }
 {
     Reason {
@@ -29,7 +27,7 @@ fn because(cause: Cause, value: u32, other: u32) -> Reason
 
 // What is wrong with the fields of a task.
 #[tactic(auto, unfolding(crate::specs::Reasons::range_reason))]
-fn range_reason(task: Task) -> Reason
+pub fn range_reason(task: Task) -> Reason
     ensures { reason_of result ≡ range_reason task }
 {
     if task.priority <= task.setting {
@@ -46,53 +44,4 @@ fn range_reason(task: Task) -> Reason
         return because(Cause::RunHigh, task.run, task.deadline);
     }
     because(Cause::DeadlineHigh, task.deadline, task.period)
-}
-
-// Why the task record that starts at a place is refused, after so many tasks.
-#[tactic(auto, unfolding(crate::specs::Reasons::task_reason))]
-fn task_reason(records: &[u8], at: usize, tasks: usize, why: Why) -> Reason
-    requires { (at ≤ 4800) × (20 * tasks ≤ length records.now) }
-    ensures { reason_of result ≡ task_reason records.now at tasks (why_number why) }
-{
-    let priority = u32::from(byte_at(records, at + 1));
-    match why {
-        Why::TooMany => because(Cause::OneTooMany, priority, 32),
-        Why::Order if 20 * tasks < at => {
-            let last = byte_at(records, at.saturating_sub(7));
-            because(Cause::AfterUse, priority, u32::from(last))
-        }
-        Why::Order => {
-            let last = byte_at(records, at.saturating_sub(19));
-            because(Cause::NotBelow, priority, u32::from(last))
-        }
-        _ => range_reason(table::task_at(records, at)),
-    }
-}
-
-// Why the use record that starts at a place is refused, after so many tasks.
-#[tactic(auto, unfolding(crate::specs::Reasons::use_reason))]
-fn use_reason(records: &[u8], at: usize, tasks: usize, why: Why) -> Reason
-    requires { (at ≤ 4800) × (20 * tasks ≤ length records.now) }
-    ensures { reason_of result ≡ use_reason records.now at tasks (why_number why) }
-{
-    let priority = byte_at(records, at + 1);
-    let user = table::place_of(records, tasks, 0, priority);
-    let told = u32::from(priority);
-    match why {
-        Why::Sections => because(Cause::PastRun, told, table::word_at(records, 20 * user + 4)),
-        _ if tasks <= user => because(Cause::OfNoTask, told, told),
-        _ => because(Cause::OutOfOrder, u32::from(byte_at(records, at + 2)), told),
-    }
-}
-
-// Why the record that starts at a place is refused, after so many tasks.
-pub fn reason_at(records: &[u8], at: usize, tasks: usize, why: Why) -> Reason
-    requires { (at ≤ 4800) × (20 * tasks ≤ length records.now) }
-    ensures { reason_of result ≡ reason_at records.now at tasks (why_number why) }
-{
-    if byte_at(records, at) == Kind::Task.number() {
-        task_reason(records, at, tasks, why)
-    } else {
-        use_reason(records, at, tasks, why)
-    }
 }

@@ -9,7 +9,8 @@ ghost use Rattle.notation.specs.Stepping.{Ready, Judgeable, Stepped, PackedTo, f
 use crate::Fault;
 use crate::causes::Cause;
 use crate::kinds::END;
-use crate::reasons::{Reason, reason_at};
+use crate::reasons::Reason;
+use crate::refused::Refused;
 use crate::rows::{Misfit, Taken, put_row};
 use words::{Class, run_end};
 
@@ -96,13 +97,13 @@ fn judge(
     match table::read(&records[..count + 1]) {
         Ok(shape) => Ok(position.past(text, taken.at, count, shape.tasks)),
         Err(refusal) => {
-            let why = reason_at(
-                &records[..count],
-                position.count,
-                position.tasks,
-                refusal.why,
-            );
-            Err(position.broken(why))
+            let refused = Refused {
+                records: &records[..count],
+                at: position.count,
+                tasks: position.tasks,
+                why: refusal.why,
+            };
+            Err(position.broken(refused.reason()))
         }
     }
 }
