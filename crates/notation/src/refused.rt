@@ -4,7 +4,7 @@ ghost use Rattle.std.specs.Prelude.{◌*◌, ◌≤◌, length};
 use crate::causes::Cause;
 use crate::kinds::Kind;
 use crate::reasons::{Reason, because, range_reason};
-use table::{Why, byte_at};
+use table::{Why, byte_at, word_at};
 
 // A refused record: the bytes that it is the last of, where it starts, the tasks before it, and why.
 #[derive(Clone, Copy)]
@@ -27,24 +27,18 @@ impl Refused<'_> {
     fn task_reason(&self) -> Reason
         ensures { reason_of result ≡ task_reason self.now.records.now self.now.at self.now.tasks (why_number self.now.why) }
     {
-        let Refused {
-            records,
-            at,
-            tasks,
-            why,
-        } = *self;
-        let priority = u32::from(byte_at(records, at + 1));
-        match why {
+        let priority = u32::from(byte_at(self.records, self.at + 1));
+        match self.why {
             Why::TooMany => because(Cause::OneTooMany, priority, 32),
-            Why::Order if 20 * tasks < at => {
-                let last = byte_at(records, at.saturating_sub(7));
+            Why::Order if 20 * self.tasks < self.at => {
+                let last = byte_at(self.records, self.at.saturating_sub(7));
                 because(Cause::AfterUse, priority, u32::from(last))
             }
             Why::Order => {
-                let last = byte_at(records, at.saturating_sub(19));
+                let last = byte_at(self.records, self.at.saturating_sub(19));
                 because(Cause::NotBelow, priority, u32::from(last))
             }
-            _ => range_reason(table::task_at(records, at)),
+            _ => range_reason(table::task_at(self.records, self.at)),
         }
     }
 
@@ -53,19 +47,17 @@ impl Refused<'_> {
     fn use_reason(&self) -> Reason
         ensures { reason_of result ≡ use_reason self.now.records.now self.now.at self.now.tasks (why_number self.now.why) }
     {
-        let Refused {
-            records,
-            at,
-            tasks,
-            why,
-        } = *self;
-        let priority = byte_at(records, at + 1);
-        let user = table::place_of(records, tasks, 0, priority);
+        let priority = byte_at(self.records, self.at + 1);
+        let user = table::place_of(self.records, self.tasks, 0, priority);
         let told = u32::from(priority);
-        match why {
-            Why::Sections => because(Cause::PastRun, told, table::word_at(records, 20 * user + 4)),
-            _ if tasks <= user => because(Cause::OfNoTask, told, told),
-            _ => because(Cause::OutOfOrder, u32::from(byte_at(records, at + 2)), told),
+        match self.why {
+            Why::Sections => because(Cause::PastRun, told, word_at(self.records, 20 * user + 4)),
+            _ if self.tasks <= user => because(Cause::OfNoTask, told, told),
+            _ => because(
+                Cause::OutOfOrder,
+                u32::from(byte_at(self.records, self.at + 2)),
+                told,
+            ),
         }
     }
 
