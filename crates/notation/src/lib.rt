@@ -12,6 +12,7 @@ ghost use Rattle.notation.specs.Showing.{shown};
 
 mod causes;
 mod columns;
+mod cursor;
 mod faults;
 mod kinds;
 mod reasons;

@@ -5,10 +5,11 @@ ghost use Rattle.notation.specs.Kinds.{first_column, column_count};
 ghost use Rattle.words.specs.Finding.{word_start, is_number};
 ghost use Rattle.words.specs.Writing.{Put};
 ghost use Rattle.notation.specs.Rows.{number_at, cell_at, row_end, cells_from, row_at};
-ghost use Rattle.notation.specs.Taking.{Found, CellRead, RowRead, TakenPut};
+ghost use Rattle.notation.specs.Taking.{CellRead, RowRead, TakenPut};
 
 use crate::causes::Cause;
 use crate::columns::Column;
+use crate::cursor::{Cursor, Span};
 use crate::kinds::Kind;
 use words::{Class, run_end, same};
 
@@ -43,60 +44,11 @@ pub struct Taken {
     pub count: usize,
 }
 
-// Where a word stands; an empty one where the line ends.
-#[derive(Clone, Copy)]
-struct Span {
-    start: usize,
-    end: usize,
-}
-
-// The next word of a line, from a place on.
-fn next_word(text: &[u8], at: usize) -> Span
-    requires { at ≤ length text.now }
-    ensures { Found text.now at result.start result.end }
-{
-    let start = run_end(text, at, Class::Blank);
-    let end = run_end(text, start, Class::Word);
-    Span { start, end }
-}
-
 // Whether a word is a number.
 fn is_number(word: &[u8]) -> bool
     ensures { result ≡ is_number word.now }
 {
     !word.is_empty() && run_end(word, 0, Class::Digit) == word.len()
-}
-
-// The value of a column, from a place on.
-fn number_at(text: &[u8], at: usize, column: Column) -> Result<Cell, Misfit>
-    requires { at ≤ length text.now }
-    ensures { CellRead text.now (column_number column) (number_at text.now at (column_number column)) result }
-{
-    let Span { start, end } = next_word(text, at);
-    let word = &text[start..end];
-    if !is_number(word) {
-        return Err(Misfit::of(Cause::NoNumber, Some(column), start));
-    }
-    let value = words::value(word);
-    if value < column.least() {
-        return Err(Misfit::of(Cause::BelowRange, Some(column), start));
-    }
-    if column.most() < value {
-        return Err(Misfit::of(Cause::AboveRange, Some(column), start));
-    }
-    Ok(Cell { end, value })
-}
-
-// The name of a column and its value, from a place on.
-fn cell_at(text: &[u8], at: usize, column: Column) -> Result<Cell, Misfit>
-    requires { at ≤ length text.now }
-    ensures { CellRead text.now (column_number column) (cell_at text.now at (column_number column)) result }
-{
-    let Span { start, end } = next_word(text, at);
-    if !same(&text[start..end], column.name()) {
-        return Err(Misfit::of(Cause::OtherName, Some(column), start));
-    }
-    number_at(text, end, column)
 }
 
 // Puts a value of a column as bytes, and answers the place after them.
@@ -114,51 +66,79 @@ fn put_value(records: &mut [u8], at: usize, column: Column, value: u32) -> usize
     }
 }
 
-// The end of a line, where no word is left.
-fn row_end(text: &[u8], at: usize, count: usize) -> Result<Taken, Misfit>
-    requires { at ≤ length text.now }
-    ensures { RowRead text.now (row_end text.now (word_start text.now at)) count result }
-{
-    let Span { start, end } = next_word(text, at);
-    if start < end {
-        return Err(Misfit::of(Cause::MoreWords, None, start));
+impl Cursor<'_> {
+    // The value of a column.
+    fn number(&self, column: Column) -> Result<Cell, Misfit>
+        ensures { CellRead self.now.text.now (column_number column) (number_at self.now.text.now self.now.at (column_number column)) result }
+    {
+        let Span { start, end } = self.next_word();
+        let word = &self.text[start..end];
+        if !is_number(word) {
+            return Err(Misfit::of(Cause::NoNumber, Some(column), start));
+        }
+        let value = words::value(word);
+        if value < column.least() {
+            return Err(Misfit::of(Cause::BelowRange, Some(column), start));
+        }
+        if column.most() < value {
+            return Err(Misfit::of(Cause::AboveRange, Some(column), start));
+        }
+        Ok(Cell { end, value })
     }
-    Ok(Taken { at: start, count })
-}
 
-// Puts the values of a kind's columns as bytes, as far as the line has them.
-fn put_cells(
-    text: &[u8],
-    at: usize,
-    kind: Kind,
-    records: &mut [u8],
-    count: usize,
-) -> Result<Taken, Misfit>
-    requires { (at ≤ length text.now) × (count + 4 * column_count kind ≤ length records.old) }
-    ensures { TakenPut text.now (cells_from (column_count kind) text.now at (first_column kind)) records.old count records.new result }
-{
-    let mut place = at;
-    let mut end = count;
-    for column in kind.columns() {
-        let cell = cell_at(text, place, *column)?;
-        end = put_value(records, end, *column, cell.value);
-        place = cell.end;
+    // The name of a column and its value.
+    fn cell(&self, column: Column) -> Result<Cell, Misfit>
+        ensures { CellRead self.now.text.now (column_number column) (cell_at self.now.text.now self.now.at (column_number column)) result }
+    {
+        let text = self.text;
+        let Span { start, end } = self.next_word();
+        if !same(&text[start..end], column.name()) {
+            return Err(Misfit::of(Cause::OtherName, Some(column), start));
+        }
+        Cursor { text, at: end }.number(column)
     }
-    row_end(text, place, end)
-}
 
-// Puts the record of the line from a place on, as far as the line has it.
-pub fn put_row(text: &[u8], at: usize, records: &mut [u8], count: usize) -> Result<Taken, Misfit>
-    requires { (at ≤ length text.now) × (count + 29 ≤ length records.old) }
-    ensures { TakenPut text.now (row_at text.now at) records.old count records.new result }
-{
-    let Span { start, end } = next_word(text, at);
-    if start == end {
-        return Ok(Taken { at: start, count });
+    // The end of the line, where no word is left.
+    fn row_end(&self, count: usize) -> Result<Taken, Misfit>
+        ensures { RowRead self.now.text.now (row_end self.now.text.now (word_start self.now.text.now self.now.at)) count result }
+    {
+        let Span { start, end } = self.next_word();
+        if start < end {
+            return Err(Misfit::of(Cause::MoreWords, None, start));
+        }
+        Ok(Taken { at: start, count })
     }
-    let Some(kind) = Kind::named(&text[start..end]) else {
-        return Err(Misfit::of(Cause::FirstWord, None, start));
-    };
-    records[count] = kind.number();
-    put_cells(text, start, kind, records, count + 1)
+
+    // Puts the values of a kind's columns as bytes, as far as the line has them.
+    fn put_cells(&self, kind: Kind, records: &mut [u8], count: usize) -> Result<Taken, Misfit>
+        requires { count + 4 * column_count kind ≤ length records.old }
+        ensures { TakenPut self.now.text.now (cells_from (column_count kind) self.now.text.now self.now.at (first_column kind)) records.old count records.new result }
+    {
+        let text = self.text;
+        let mut place = self.at;
+        let mut end = count;
+        for column in kind.columns() {
+            let cell = Cursor { text, at: place }.cell(*column)?;
+            end = put_value(records, end, *column, cell.value);
+            place = cell.end;
+        }
+        Cursor { text, at: place }.row_end(end)
+    }
+
+    // Puts the record of the line, as far as the line has it.
+    pub fn put_row(&self, records: &mut [u8], count: usize) -> Result<Taken, Misfit>
+        requires { count + 29 ≤ length records.old }
+        ensures { TakenPut self.now.text.now (row_at self.now.text.now self.now.at) records.old count records.new result }
+    {
+        let text = self.text;
+        let Span { start, end } = self.next_word();
+        if start == end {
+            return Ok(Taken { at: start, count });
+        }
+        let Some(kind) = Kind::named(&text[start..end]) else {
+            return Err(Misfit::of(Cause::FirstWord, None, start));
+        };
+        records[count] = kind.number();
+        Cursor { text, at: start }.put_cells(kind, records, count + 1)
+    }
 }

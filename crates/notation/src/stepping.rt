@@ -8,10 +8,11 @@ ghost use Rattle.notation.specs.Stepping.{Ready, Judgeable, Stepped, PackedTo, f
 
 use crate::Fault;
 use crate::causes::Cause;
+use crate::cursor::Cursor;
 use crate::kinds::END;
 use crate::reasons::Reason;
 use crate::refused::Refused;
-use crate::rows::{Misfit, Taken, put_row};
+use crate::rows::{Misfit, Taken};
 use words::{Class, run_end};
 
 // Where packing stands: the next line's place and number, the bytes of the records so far, and the tasks among them.
@@ -25,13 +26,13 @@ pub struct Position {
 
 impl Position {
     // Past the line that has a place, with so many bytes and tasks so far.
-    fn past(self, text: &[u8], at: usize, count: usize, tasks: usize) -> Position
-        requires { (at ≤ length text.now) × (length text.now ≤ longest) × (self.line ≤ longest + 1) }
-        ensures value { result ≡ past text.now self at count tasks }
-        ensures within { result.at ≤ length text.now + 1 }
+    fn past(self, last: &Cursor, count: usize, tasks: usize) -> Position
+        requires { (length last.now.text.now ≤ longest) × (self.line ≤ longest + 1) }
+        ensures value { result ≡ past last.now.text.now self last.now.at count tasks }
+        ensures within { result.at ≤ length last.now.text.now + 1 }
     {
         Position {
-            at: run_end(text, at, Class::Line) + 1,
+            at: run_end(last.text, last.at, Class::Line) + 1,
             line: self.line + 1,
             count,
             tasks,
@@ -95,7 +96,10 @@ fn judge(
     let count = taken.count;
     records[count] = END;
     match table::read(&records[..count + 1]) {
-        Ok(shape) => Ok(position.past(text, taken.at, count, shape.tasks)),
+        Ok(shape) => {
+            let last = Cursor { text, at: taken.at };
+            Ok(position.past(&last, count, shape.tasks))
+        }
         Err(refusal) => {
             let refused = Refused {
                 records: &records[..count],
@@ -114,10 +118,15 @@ fn line_step(text: &[u8], records: &mut [u8], position: Position) -> Result<Posi
     requires at_in_bounds { position.at < length text.now }
     ensures { Stepped text.now position (line_step text.now position (front_of position records.old)) records.new result }
 {
-    match put_row(text, position.at, records, position.count) {
+    let line = Cursor {
+        text,
+        at: position.at,
+    };
+    match line.put_row(records, position.count) {
         Err(misfit) => Err(position.misfit(misfit)),
         Ok(taken) if taken.count == position.count => {
-            Ok(position.past(text, taken.at, position.count, position.tasks))
+            let last = Cursor { text, at: taken.at };
+            Ok(position.past(&last, position.count, position.tasks))
         }
         Ok(taken) => judge(text, records, position, taken),
     }

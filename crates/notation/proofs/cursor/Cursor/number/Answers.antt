@@ -1,10 +1,10 @@
--- What is left of `notation::rows::number_at`.
+-- What is left of `notation::cursor::Cursor::number`.
 use mathlib.Core.Path.{sym, ◌∙◌}
 use native.Mathlib.Omega.{arith}
 use Rattle.notation.specs.declared.causes.Cause.TheVariants.{NoNumber, BelowRange, AboveRange}
 use Rattle.notation.specs.Columns.{column_number}
 use Rattle.notation.proofs.Rowing.{cell_misfit, number_none, number_low, number_high, number_is}
-use Rattle.notation.proofs.rows.number_at.Goals as goal
+use Rattle.notation.proofs.cursor.Cursor.number.Goals as goal
 
 pub returns-then-not-is_number : goal.returns-then-not-is_number
 returns-then-not-is_number c =

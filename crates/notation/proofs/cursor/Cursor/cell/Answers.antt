@@ -1,4 +1,4 @@
--- What is left of `notation::rows::cell_at`.
+-- What is left of `notation::cursor::Cursor::cell`.
 use Prim.Native.Nat.{◌-◌}
 use mathlib.Core.Path.{◌≡◌, sym, ap, subst, ◌∙◌}
 use lib.ListN.{take, drop}
@@ -8,13 +8,13 @@ use Rattle.notation.specs.Columns.{column_number, name}
 use Rattle.notation.specs.Rows.{Cell}
 use Rattle.notation.specs.Taking.{CellRead}
 use Rattle.notation.proofs.Rowing.{cell_misfit, cell_named, cell_other}
-use Rattle.notation.proofs.rows.cell_at.Goals as goal
-use Rattle.notation.proofs.rows.cell_at.Goals.{After-same}
+use Rattle.notation.proofs.cursor.Cursor.cell.Goals as goal
+use Rattle.notation.proofs.cursor.Cursor.cell.Goals.{After-same}
 
 -- what is tested is whether it is the column's name
 tested : (c : After-same) → let b = c.next_word-start.result.start in
-    c.same.result ≡ same (take (c.next_word-start.result.end - b) (drop b c.args.text.now)) (name (column_number c.args.column))
-tested c = let b = c.next_word-start.result.start in c.same.ensures ∙ ap (same (take (c.next_word-start.result.end - b) (drop b c.args.text.now))) c.name.ensures.value
+    c.same.result ≡ same (take (c.next_word-start.result.end - b) (drop b c.args.self.now.text.now)) (name (column_number c.args.column))
+tested c = let b = c.next_word-start.result.start in c.same.ensures ∙ ap (same (take (c.next_word-start.result.end - b) (drop b c.args.self.now.text.now))) c.name.ensures.value
 
 pub returns-then-not-same : goal.returns-then-not-same
 returns-then-not-same c =
@@ -26,5 +26,5 @@ pub returns : goal.returns
 returns c =
     let word = c.next_word-start.ensures in
     let named = sym (tested (goal.at.returns c).After-same) ∙ c.if-not-same.false in
-    subst (λ (x : Cell). CellRead c.args.text.now (column_number c.args.column) x c.number_at.result) (cell_named word (column_number c.args.column) named)
-    c.number_at.ensures
+    subst (λ (x : Cell). CellRead c.args.self.now.text.now (column_number c.args.column) x c.number.result) (cell_named word (column_number c.args.column) named)
+    c.number.ensures
