@@ -3,6 +3,9 @@ use analysis::{Analysis, TaskAnswer};
 use scheduler::{Denial, Number, refusal_number};
 use table::Refusal;
 
+// Numbers below this fit into 40 bits.
+const LOW: u64 = 1 << 40;
+
 // A checksum: it starts at 0, and each number x makes it 257 times its low 40 bits, and those of x. That of `harness` divides by a prime number
 // instead: this one takes fewer instructions, since they are counted with those of what is measured.
 #[derive(Clone, Copy, Default)]
@@ -14,7 +17,7 @@ impl Checksum {
     // That after one number more.
     pub fn with<N: Into<u64>>(self, number: N) -> Checksum {
         Checksum {
-            value: self.value % 1099511627776 * 257 + number.into() % 1099511627776,
+            value: self.value % LOW * 257 + number.into() % LOW,
         }
     }
 
