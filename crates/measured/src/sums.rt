@@ -35,8 +35,8 @@ impl Checksum {
         }
     }
 
-    // That after an analysis: refusal, place, verdict, evaluations and each task's answer. The analysis is passed by value, which takes 17 instructions
-    // less of each than a reference to it.
+    // That after an analysis: refusal, place, verdict, evaluations and each task's answer. The analysis is passed by value: by reference each takes
+    // some 40 to 90 instructions more, 3,053 instead of 2,967 with 3 tasks.
     pub fn with_analysis(self, analysis: Analysis) -> Checksum {
         let place = analysis.refusal.map_or(0, |refusal| refusal.place);
         let mut sum = self
