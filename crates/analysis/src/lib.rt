@@ -27,7 +27,7 @@ pub struct Spent;
 
 // What the analysis of a table answers: a refusal, if it is refused; the tasks; the verdict, whether every task has a bound; the evaluations;
 // and for each task its value in the final vector, and whether it has a bound. The last two are told by `answer` alone; they stand in two arrays,
-// since the right sides read the values as one slice of numbers.
+// since the rounds work on the values as on one slice of numbers.
 #[derive(Clone, Copy)]
 pub struct Analysis {
     pub refusal: Option<Refusal>,

@@ -1,6 +1,6 @@
 -- Demand 1, fixed replies: every table, call and job number has one defined reply. A refused call changes nothing; a call under any number but the
 -- entitled job's is refused; an old number can match again only after 65,536 releases.
-use Rattle.std.specs.Prelude.{ℕ, suc, ◌<◌, ◌≡◌, ◌↔◌, List, ◌++◌, get_or, length, drop, Result}
+use Rattle.std.specs.Prelude.{ℕ, suc, ◌<◌, ◌≡◌, ◌↔◌, List, ◌++◌, get_or, length, drop, Result, Option}
 use Rattle.std.proofs.Common.{sym, ◌∙◌}
 use Rattle.table.specs.declared.Shape.{Shape}
 use Rattle.table.specs.declared.Refusal.{Refusal}
@@ -21,6 +21,10 @@ use Rattle.report.specs.declared.Row.{Row}
 use Rattle.report.specs.Reporting.{reported, rows_after}
 use Rattle.words.specs.Writing.{Put}
 use Rattle.notation.specs.declared.Fault.{Fault}
+use Rattle.notation.specs.declared.causes.Cause.{Cause}
+use Rattle.notation.specs.declared.columns.Column.{Column}
+use Rattle.notation.specs.Causes.{cause_number}
+use Rattle.notation.specs.Columns.{column_number, name}
 use Rattle.notation.specs.Numbered.{packing_of}
 use Rattle.notation.specs.Packing.{pack_into}
 use Rattle.notation.proofs.Views.{packing_one}
@@ -51,11 +55,13 @@ one d r q e f = e ∙ sym f
 
 -- What a host may call, by the definition that it is promised by: bytes, tables, states and numbers are any.
 pub record OneReply : Type 0 where
-  -- table::read, number and place of its answer, and Why::number
+  -- table::read, number and place of its answer, Why::number and at, and what a Refusal prints
   pub reads : (s : List ℕ) → One (read_table s)
   pub read_numbers : (r : Reading) → One (table-replies.number_of r)
   pub read_places : (r : Reading) → One (table-replies.place_of r)
   pub why_numbers : (y : Why) → One (table-replies.why_number y)
+  pub whys_at : (y : Why) (place : ℕ) → One {A = Refusal} (record { why = y; place = place })
+  pub refusals_print : (r : Refusal) → One (table-replies.refusal_text r)
   -- table::record_of, byte_at, word_at, task_at, use_at, no_task, no_use
   pub records : (s : List ℕ) (p : ℕ) → One (record_of s p)
   pub bytes : (s : List ℕ) (at : ℕ) → One (get_or s at 0)
@@ -77,12 +83,15 @@ pub record OneReply : Type 0 where
   -- report::report and the rows that it is lent
   pub reports : (s : List ℕ) (allowance room : ℕ) → One (reported s allowance room)
   pub reports_to : (s : List ℕ) (allowance : ℕ) (rows : List Row) → One (rows_after s allowance rows)
-  -- scheduler::set_up, the six calls on any state, and Denial::number
+  -- scheduler::set_up, the six calls on any state, as functions and as values; Denial::number and refusal_number
   pub sets_up : (s : List ℕ) → One (set_up s)
   pub calls : (s : Scheduler) (c : Call) → One (replied s c)
   pub denial_numbers : (d : Denial) → One (denial_number d)
-  -- notation::pack, and the buffer that it is lent
+  pub refusal_numbers : (r : Option Denial) → One (refusal_number r)
+  -- notation::pack, and the buffer that it is lent; Cause::number and Column::name
   pub packs : (room : ℕ) (t : List ℕ) (r q : Result ℕ Fault) → packing_of r ≡ (pack_into room t).packing → packing_of q ≡ (pack_into room t).packing → r ≡ q
+  pub cause_numbers : (c : Cause) → One (cause_number c)
+  pub column_names : (c : Column) → One (name (column_number c))
   pub packs_to : (t out : List ℕ) → One ((pack_into (length out) t).bytes ++ drop (length (pack_into (length out) t).bytes) out)
   -- lines::bounds_lines, notation::show, notation::fault_line, notation::pack_reply: each puts one text at the front of a buffer, and of any text
   -- that is put there the place after it and the whole buffer are fixed
@@ -94,6 +103,8 @@ one_reply = record {
   read_numbers = λ r. one (table-replies.number_of r);
   read_places = λ r. one (table-replies.place_of r);
   why_numbers = λ y. one (table-replies.why_number y);
+  whys_at = λ y place. one {A = Refusal} (record { why = y; place = place });
+  refusals_print = λ r. one (table-replies.refusal_text r);
   records = λ s p. one (record_of s p);
   bytes = λ s at. one (get_or s at 0);
   words = λ s at. one (word_at s at);
@@ -114,7 +125,10 @@ one_reply = record {
   sets_up = λ s. one (set_up s);
   calls = λ s c. one (replied s c);
   denial_numbers = λ d. one (denial_number d);
+  refusal_numbers = λ r. one (refusal_number r);
   packs = λ room t r q e f. packing_one r q (e ∙ sym f);
+  cause_numbers = λ c. one (cause_number c);
+  column_names = λ c. one (name (column_number c));
   packs_to = λ t out. one ((pack_into (length out) t).bytes ++ drop (length (pack_into (length out) t).bytes) out);
   prints = λ t out o₁ o₂ r₁ r₂ p q. (p.end ∙ sym q.end, p.holds ∙ sym q.holds);
 }

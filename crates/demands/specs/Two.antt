@@ -16,7 +16,6 @@ use Rattle.rounds.specs.System.{deadline, Final}
 use Rattle.rounds.specs.Vector.{◌⊑◌}
 use Rattle.rounds.specs.Rounds.{analysis, answer}
 use Rattle.held.specs.declared.Table.{Table}
-use Rattle.std.specs.Prelude.{Ok}
 use Rattle.held.specs.Loading.{load_table}
 use Rattle.held.specs.Writing.{write_table, written}
 use Rattle.held.specs.Trips as held

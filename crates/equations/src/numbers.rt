@@ -1,4 +1,4 @@
-// Arithmetic that the definitions have and the language hasn't.
+// Quotients that are rounded up, in 32 bits: to divide in 64 takes longer.
 ghost use Rattle.std.specs.Prelude.{◌≡◌, ◌≤◌};
 ghost use Rattle.equations.specs.Counting.{ceil};
 
