@@ -5,12 +5,11 @@ ghost use Rattle.arrays.specs.View.{tasks_of, entries_of};
 ghost use Rattle.arrays.specs.Rulings.{ruling_of, Roomy};
 
 use crate::counts::count_at;
-use crate::{Denial, Entries, Tasks};
+use crate::{Denial, Entries, Place, Tasks};
 
 impl Entries {
     // A release: its job must be over.
-    pub fn release_rule(&self, place: usize) -> Result<usize, Denial>
-        requires { place < 32 }
+    pub fn release_rule(&self, place: Place) -> Result<Place, Denial>
         ensures { ruling_of result ≡ releasing (entries_of self.now) place }
     {
         if self.status(place).is_unfinished() {
@@ -24,10 +23,9 @@ impl Entries {
         &self,
         tasks: &Tasks,
         sections: usize,
-        place: usize,
+        place: Place,
         resource: u8,
-    ) -> Result<usize, Denial>
-        requires { place < 32 }
+    ) -> Result<Place, Denial>
         ensures rule { ruling_of result ≡ locking (tasks_of tasks.now) (entries_of self.now) (nat_lt sections 16) resource place }
         ensures room { IfOk result (λ i. (i ≡ place) × Roomy self.now sections resource i) }
     {
@@ -35,7 +33,7 @@ impl Entries {
         if most < 1 {
             return Err(Denial::NoUse);
         }
-        if 0 < self.held[place] {
+        if 0 < self.held[place.index()] {
             return Err(Denial::Held);
         }
         if 16 <= sections {
@@ -48,11 +46,10 @@ impl Entries {
     }
 
     // An unlock: of the resource held.
-    pub fn unlock_rule(&self, place: usize, resource: u8) -> Result<usize, Denial>
-        requires { place < 32 }
+    pub fn unlock_rule(&self, place: Place, resource: u8) -> Result<Place, Denial>
         ensures { ruling_of result ≡ unlocking (entries_of self.now) resource place }
     {
-        let holds = self.held[place];
+        let holds = self.held[place.index()];
         if holds < 1 {
             return Err(Denial::NotHeld);
         }
@@ -63,26 +60,24 @@ impl Entries {
     }
 
     // A suspend: no section held, X not reached.
-    pub fn suspend_rule(&self, tasks: &Tasks, place: usize) -> Result<usize, Denial>
-        requires { place < 32 }
+    pub fn suspend_rule(&self, tasks: &Tasks, place: Place) -> Result<Place, Denial>
         ensures rule { ruling_of result ≡ suspending (tasks_of tasks.now) (entries_of self.now) place }
         ensures room { IfOk result (λ i. slice_index self.now.sleeps i < 255) }
     {
-        if 0 < self.held[place] {
+        if 0 < self.held[place.index()] {
             return Err(Denial::Inside);
         }
-        if tasks.most[place] <= self.sleeps[place] {
+        if tasks.most[place.index()] <= self.sleeps[place.index()] {
             return Err(Denial::Sleepless);
         }
         Ok(place)
     }
 
     // A complete: no section held.
-    pub fn complete_rule(&self, place: usize) -> Result<usize, Denial>
-        requires { place < 32 }
+    pub fn complete_rule(&self, place: Place) -> Result<Place, Denial>
         ensures { ruling_of result ≡ completing (entries_of self.now) place }
     {
-        if 0 < self.held[place] {
+        if 0 < self.held[place.index()] {
             return Err(Denial::Inside);
         }
         Ok(place)

@@ -6,7 +6,7 @@ ghost use Rattle.arrays.specs.View.{tasks_of, entries_of, eligible_priority, sle
 ghost use Rattle.arrays.specs.Places.{place_of};
 
 use crate::marks::{is_eligible, is_leading};
-use crate::{Entries, Number, Tasks};
+use crate::{Entries, Number, Place, Status, Tasks};
 
 impl Entries {
     // The largest setting among started, unfinished jobs, else 0. Each setting is read before the test, so that the loop becomes wide instructions.
@@ -17,7 +17,7 @@ impl Entries {
         let mut highest: u8 = 0;
         for i in 0..tasks.count {
             let setting = tasks.settings[i];
-            let counts = self.started[i] & self.status(i).is_unfinished();
+            let counts = self.started[i] & Status::of(self.states[i]).is_unfinished();
             let counted = if counts { setting } else { 0 };
             highest = highest.max(counted);
         }
@@ -32,7 +32,7 @@ impl Entries {
         let mut highest: u8 = 0;
         for i in 0..tasks.count {
             let priority = tasks.priorities[i];
-            let eligible = is_eligible(self.status(i), self.held[i], system, priority);
+            let eligible = is_eligible(Status::of(self.states[i]), self.held[i], system, priority);
             let counted = if eligible { priority } else { 0 };
             highest = highest.max(counted);
         }
@@ -40,7 +40,7 @@ impl Entries {
     }
 
     // The place of the running job: the first of the eligible ready jobs that has the highest priority of these.
-    pub fn running(&self, tasks: &Tasks) -> Option<usize>
+    pub fn running(&self, tasks: &Tasks) -> Option<Place>
         requires { tasks.now.count ≤ 32 }
         ensures found { place_of result ≡ running in_force (tasks_of tasks.now) (entries_of self.now) }
         ensures inside { IfSome result (λ i. i < tasks.now.count) }
@@ -49,29 +49,30 @@ impl Entries {
         let highest = self.highest_eligible(tasks, system);
         for i in 0..tasks.count {
             let leads = is_leading(
-                self.status(i),
+                Status::of(self.states[i]),
                 self.held[i],
                 system,
                 tasks.priorities[i],
                 highest,
             );
             if leads {
-                return Some(i);
+                return Some(Place::new(i));
             }
         }
         None
     }
 
     // The place of the first job that sleeps under this number.
-    pub fn sleeper(&self, tasks: &Tasks, job: Number) -> Option<usize>
+    pub fn sleeper(&self, tasks: &Tasks, job: Number) -> Option<Place>
         requires { tasks.now.count ≤ 32 }
         ensures found { place_of result ≡ first (sleeping (tasks_of tasks.now) (entries_of self.now) job.priority job.serial) tasks.now.count }
         ensures inside { IfSome result (λ i. i < tasks.now.count) }
     {
         for i in 0..tasks.count {
-            let named = self.has_number(tasks, i, job);
-            if self.status(i).is_asleep() & named {
-                return Some(i);
+            let place = Place::new(i);
+            let named = self.has_number(tasks, place, job);
+            if self.status(place).is_asleep() & named {
+                return Some(place);
             }
         }
         None

@@ -6,6 +6,7 @@ ghost use Rattle.protocol.specs.Fit.{used};
 ghost use Rattle.arrays.specs.View.{tasks_of, of_priority, setting_below};
 ghost use Rattle.arrays.specs.Places.{place_of};
 
+use crate::Place;
 use crate::counts::count_at;
 
 // The tasks by place: priority, system setting, most sleeps X, and N for each of sixteen resources. So many places have one.
@@ -20,7 +21,7 @@ pub struct Tasks {
 
 impl Tasks {
     // The place of the first task with a priority.
-    pub fn place_of_priority(&self, priority: u8) -> Option<usize>
+    pub fn place_of_priority(&self, priority: u8) -> Option<Place>
         requires { self.now.count ≤ 32 }
         ensures found { place_of result ≡ first (of_priority (tasks_of self.now) priority) self.now.count }
         ensures inside { IfSome result (λ i. i < self.now.count) }
@@ -28,6 +29,7 @@ impl Tasks {
         self.priorities[..self.count]
             .iter()
             .position(|p| *p == priority)
+            .map(Place::new)
     }
 
     // The ceiling of a resource.
@@ -38,7 +40,7 @@ impl Tasks {
         let mut highest: u8 = 0;
         for i in 0..self.count {
             let priority = self.priorities[i];
-            let uses = count_at(&self.uses, i, resource);
+            let uses = count_at(&self.uses, Place::new(i), resource);
             let counted = if 0 < uses { priority } else { 0 };
             highest = highest.max(counted);
         }
@@ -51,7 +53,7 @@ impl Tasks {
         ensures { result ≡ used (tasks_of self.now) resource }
     {
         for i in 0..self.count {
-            if 0 < count_at(&self.uses, i, resource) {
+            if 0 < count_at(&self.uses, Place::new(i), resource) {
                 return true;
             }
         }

@@ -49,3 +49,7 @@ grants {s} {c} {i} Z R =
     fits : (b : Bool) → grant i ≡ demand 26 b (checks in_force (table_of s) (state_of s) c) → b ≡ true
     fits true e = refl
     fits false e = absurd (impossible cc)
+
+-- so is one by the index of the place that it is granted to
+pub grants_index : {s : Scheduler} {c : Call} {i k : ℕ} → k ≡ i → Sized s → Ruled s (ruling_on s c) (Ok i) → Grants s c k
+grants_index e Z R = rw e (grants Z R)

@@ -1,20 +1,21 @@
 // How a call ends: it is refused, or settled.
-ghost use Rattle.std.specs.Prelude.{◌≡◌, ◌≢◌, ◌<◌, ◌≤◌, IfSome};
+ghost use Rattle.std.specs.Prelude.{◌≡◌, ◌≢◌, ◌≤◌};
 ghost use Rattle.protocol.specs.Step.{number_at};
 ghost use Rattle.arrays.specs.declared.denial.Denial.TheVariants.{Unfit};
 ghost use Rattle.arrays.specs.Places.{place_of};
 ghost use Rattle.scheduler.specs.View.{Sized, table_of, entry_of};
 ghost use Rattle.scheduler.specs.Replies.{running_of, runs, refused_reply, settled_reply};
 
-use crate::{Denial, Number, Reply, Scheduler};
+use crate::{Denial, Number, Place, Reply, Scheduler};
 
 impl Scheduler {
     // The number of the latest job at a place.
-    fn number_at(&self, place: Option<usize>) -> Option<Number>
-        requires { IfSome place (λ i. i < 32) }
-        ensures { result ≡ running_of (number_at (table_of self.now) (entry_of self.now) (place_of place)) }
+    fn number_at(&self, place: &Option<Place>) -> Option<Number>
+        ensures { result ≡ running_of (number_at (table_of self.now) (entry_of self.now) (place_of place.now)) }
     {
-        place.map(|at| self.entries.number_at(&self.tasks, at))
+        place
+            .as_ref()
+            .map(|place| self.entries.number_at(&self.tasks, *place))
     }
 
     // The number of the running job.
@@ -22,7 +23,7 @@ impl Scheduler {
         requires { self.now.tasks.count ≤ 32 }
         ensures { result ≡ runs self.now }
     {
-        self.number_at(self.entries.running(&self.tasks))
+        self.number_at(&self.entries.running(&self.tasks))
     }
 
     // The answer of a refused call: who runs, nobody where the state is unfit, and the state as it is.
@@ -47,9 +48,9 @@ impl Scheduler {
         ensures told { result ≡ settled_reply self }
         ensures sized { Sized self }
     {
-        let at = self.entries.running(&self.tasks);
-        let running = self.number_at(at);
-        self.entries.start(at);
+        let place = self.entries.running(&self.tasks);
+        let running = self.number_at(&place);
+        self.entries.start(place);
         Reply {
             refusal: None,
             running,

@@ -1,5 +1,5 @@
 // The calls that begin, wake, put to sleep and end a job.
-ghost use Rattle.std.specs.Prelude.{◌≡◌, ◌<◌, ◌≤◌};
+ghost use Rattle.std.specs.Prelude.{◌≡◌, ◌≤◌};
 ghost use Rattle.protocol.specs.Checks.{Call};
 ghost use Rattle.protocol.specs.Running.{system_ceiling};
 ghost use Rattle.protocol.specs.Acting.{admitted};
@@ -7,7 +7,7 @@ ghost use Rattle.arrays.specs.Statuses.{status_seen};
 ghost use Rattle.scheduler.specs.View.{table_of, state_of};
 ghost use Rattle.scheduler.specs.Replies.{replied};
 
-use crate::{Number, Reply, Scheduler};
+use crate::{Number, Place, Reply, Scheduler};
 use arrays::{Status, admitted};
 
 impl Scheduler {
@@ -23,26 +23,27 @@ impl Scheduler {
     }
 
     // The status of a job that is released or wakes: ready if its priority is above the system ceiling, else waiting.
-    fn admission(&self, place: usize) -> Status
-        requires { (place < 32) × (self.now.tasks.count ≤ 32) × (self.now.sections.count ≤ 16) }
+    fn admission(&self, place: Place) -> Status
+        requires { (self.now.tasks.count ≤ 32) × (self.now.sections.count ≤ 16) }
         ensures { status_seen result ≡ admitted (table_of self.now) (system_ceiling (table_of self.now) (state_of self.now)) place }
     {
-        admitted(self.ceiling(), self.tasks.priorities[place])
+        admitted(self.ceiling(), self.tasks.priorities[place.index()])
     }
 
     // A job begins: ready if its priority is above the system ceiling, else waiting.
     pub fn release(mut self, priority: u8) -> Reply
         ensures { result ≡ replied self (Call.release priority) }
     {
-        let at = match self.release_ruling(priority) {
-            Ok(at) => at,
+        let place = match self.release_ruling(priority) {
+            Ok(place) => place,
             Err(denial) => return self.refused(denial),
         };
-        self.entries.states[at] = self.admission(at).number();
+        let at = place.index();
+        self.entries.states[at] = self.admission(place).number();
         self.entries.started[at] = false;
         self.entries.sleeps[at] = 0;
         self.entries.serials[at] = self.entries.serials[at].wrapping_add(1);
-        self.entries.clear(at);
+        self.entries.clear(place);
         self.settled()
     }
 
@@ -50,11 +51,12 @@ impl Scheduler {
     pub fn resume(mut self, job: Number) -> Reply
         ensures { result ≡ replied self (Call.resume job.priority job.serial) }
     {
-        let at = match self.resume_ruling(job) {
-            Ok(at) => at,
+        let place = match self.resume_ruling(job) {
+            Ok(place) => place,
             Err(denial) => return self.refused(denial),
         };
-        self.entries.states[at] = self.admission(at).number();
+        let at = place.index();
+        self.entries.states[at] = self.admission(place).number();
         self.settled()
     }
 
@@ -63,7 +65,7 @@ impl Scheduler {
         ensures { result ≡ replied self (Call.suspend job.priority job.serial) }
     {
         let at = match self.suspend_ruling(job) {
-            Ok(at) => at,
+            Ok(place) => place.index(),
             Err(denial) => return self.refused(denial),
         };
         self.entries.states[at] = Status::Asleep.number();
@@ -76,7 +78,7 @@ impl Scheduler {
         ensures { result ≡ replied self (Call.complete job.priority job.serial) }
     {
         let at = match self.complete_ruling(job) {
-            Ok(at) => at,
+            Ok(place) => place.index(),
             Err(denial) => return self.refused(denial),
         };
         self.entries.states[at] = Status::NoJob.number();

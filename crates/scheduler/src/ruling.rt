@@ -7,7 +7,7 @@ ghost use Rattle.arrays.specs.Rulings.{Roomy};
 ghost use Rattle.scheduler.specs.View.{table_of, state_of};
 ghost use Rattle.scheduler.specs.Rulings.{Ruled, by_number, ruling_on};
 
-use crate::{Denial, Number, Scheduler};
+use crate::{Denial, Number, Place, Scheduler};
 
 impl Scheduler {
     // An unfit state is refused before all else.
@@ -23,31 +23,31 @@ impl Scheduler {
     }
 
     // The place of the running job, where it has this number: what is checked first of every call of its own.
-    fn caller(&self, job: Number) -> Result<usize, Denial>
+    fn caller(&self, job: Number) -> Result<Place, Denial>
         ensures { Ruled self.now (by_number self.now job.priority job.serial) result }
     {
         self.fitness()?;
-        let at = self.entries.running(&self.tasks).ok_or(Denial::Stranger)?;
-        if !self.entries.has_number(&self.tasks, at, job) {
+        let place = self.entries.running(&self.tasks).ok_or(Denial::Stranger)?;
+        if !self.entries.has_number(&self.tasks, place, job) {
             return Err(Denial::Stranger);
         }
-        Ok(at)
+        Ok(place)
     }
 
     // A release finds the task of its priority.
-    pub(crate) fn release_ruling(&self, priority: u8) -> Result<usize, Denial>
+    pub(crate) fn release_ruling(&self, priority: u8) -> Result<Place, Denial>
         ensures { Ruled self.now (ruling_on self.now (Call.release priority)) result }
     {
         self.fitness()?;
-        let at = self
+        let place = self
             .tasks
             .place_of_priority(priority)
             .ok_or(Denial::NoTask)?;
-        self.entries.release_rule(at)
+        self.entries.release_rule(place)
     }
 
     // A resume finds the job that sleeps under its number.
-    pub(crate) fn resume_ruling(&self, job: Number) -> Result<usize, Denial>
+    pub(crate) fn resume_ruling(&self, job: Number) -> Result<Place, Denial>
         ensures { Ruled self.now (ruling_on self.now (Call.resume job.priority job.serial)) result }
     {
         self.fitness()?;
@@ -57,37 +57,37 @@ impl Scheduler {
     }
 
     // The others find the running job: a lock,
-    pub(crate) fn lock_ruling(&self, job: Number, resource: u8) -> Result<usize, Denial>
+    pub(crate) fn lock_ruling(&self, job: Number, resource: u8) -> Result<Place, Denial>
         ensures ruled { Ruled self.now (ruling_on self.now (Call.lock job.priority job.serial resource)) result }
         ensures room { IfOk result (λ i. Roomy self.now.entries self.now.sections.count resource i) }
     {
-        let at = self.caller(job)?;
+        let place = self.caller(job)?;
         self.entries
-            .lock_rule(&self.tasks, self.sections.count, at, resource)
+            .lock_rule(&self.tasks, self.sections.count, place, resource)
     }
 
     // an unlock,
-    pub(crate) fn unlock_ruling(&self, job: Number, resource: u8) -> Result<usize, Denial>
+    pub(crate) fn unlock_ruling(&self, job: Number, resource: u8) -> Result<Place, Denial>
         ensures { Ruled self.now (ruling_on self.now (Call.unlock job.priority job.serial resource)) result }
     {
-        let at = self.caller(job)?;
-        self.entries.unlock_rule(at, resource)
+        let place = self.caller(job)?;
+        self.entries.unlock_rule(place, resource)
     }
 
     // a suspend,
-    pub(crate) fn suspend_ruling(&self, job: Number) -> Result<usize, Denial>
+    pub(crate) fn suspend_ruling(&self, job: Number) -> Result<Place, Denial>
         ensures ruled { Ruled self.now (ruling_on self.now (Call.suspend job.priority job.serial)) result }
         ensures room { IfOk result (λ i. slice_index self.now.entries.sleeps i < 255) }
     {
-        let at = self.caller(job)?;
-        self.entries.suspend_rule(&self.tasks, at)
+        let place = self.caller(job)?;
+        self.entries.suspend_rule(&self.tasks, place)
     }
 
     // and a complete.
-    pub(crate) fn complete_ruling(&self, job: Number) -> Result<usize, Denial>
+    pub(crate) fn complete_ruling(&self, job: Number) -> Result<Place, Denial>
         ensures { Ruled self.now (ruling_on self.now (Call.complete job.priority job.serial)) result }
     {
-        let at = self.caller(job)?;
-        self.entries.complete_rule(at)
+        let place = self.caller(job)?;
+        self.entries.complete_rule(place)
     }
 }

@@ -28,12 +28,13 @@ impl Scheduler {
     pub fn lock(mut self, job: Number, resource: u8) -> Reply
         ensures { result ≡ replied self (Call.lock job.priority job.serial resource) }
     {
-        let at = match self.lock_ruling(job, resource) {
-            Ok(at) => at,
+        let place = match self.lock_ruling(job, resource) {
+            Ok(place) => place,
             Err(denial) => return self.refused(denial),
         };
+        let at = place.index();
         self.entries.held[at] = resource;
-        self.entries.count_one_more(at, resource);
+        self.entries.count_one_more(place, resource);
         self.sections.places[self.sections.count] = at as u8;
         self.sections.resources[self.sections.count] = resource;
         self.sections.count += 1;
@@ -46,7 +47,7 @@ impl Scheduler {
         ensures { result ≡ replied self (Call.unlock job.priority job.serial resource) }
     {
         let at = match self.unlock_ruling(job, resource) {
-            Ok(at) => at,
+            Ok(place) => place.index(),
             Err(denial) => return self.refused(denial),
         };
         self.entries.held[at] = 0;

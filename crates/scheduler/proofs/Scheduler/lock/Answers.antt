@@ -3,7 +3,7 @@ use Rattle.std.proofs.Common.{◌∙◌}
 use Rattle.protocol.specs.Checks.{lock}
 use Rattle.scheduler.proofs.Sizes.{sized}
 use Rattle.scheduler.proofs.Ends.{refused_replied, granted_replied}
-use Rattle.scheduler.proofs.Asking.{grants}
+use Rattle.scheduler.proofs.Asking.{grants_index}
 use Rattle.scheduler.proofs.Opening.{lock_done}
 use Rattle.scheduler.proofs.Scheduler.lock.Goals as goal
 
@@ -13,5 +13,5 @@ returns-in-Err c =
 
 pub returns : goal.returns
 returns c =
-    let G = grants (sized c.args.self c.well_formed.0) c.in-Ok.ensures.ruled in
-    c.settled.ensures.told ∙ granted_replied c.settled.ensures.sized (lock_done G c.in-Ok.ensures.room.0 c.count_one_more.ensures.counted c.count_one_more.ensures.rest)
+    let G = grants_index c.index-at.ensures.0 (sized c.args.self c.well_formed.0) c.in-Ok.ensures.ruled in
+    c.settled.ensures.told ∙ granted_replied c.settled.ensures.sized (lock_done G c.in-Ok.ensures.room.0 (rw c.index-at.ensures.0 c.count_one_more.ensures.counted) c.count_one_more.ensures.rest)

@@ -10,11 +10,11 @@ pub returns-clause-ruled : goal.returns-clause-ruled
 returns-clause-ruled c =
     let s = c.args.self.now in
     let o = s.sections in
-    let h = c.in_ok-at.ensures in
+    let h = c.in_ok-place.ensures in
     record {
       same = rw (sections_length o.places o.resources o.count)
           (c.lock_rule.ensures.rule
-          ∙ checked_rest s c.args.job.priority c.args.job.serial c.in_ok-at.at (locking (table_of s) (entry_of s) (ltb o.count 16) c.args.resource) h.same);
+          ∙ checked_rest s c.args.job.priority c.args.job.serial c.in_ok-place.place (locking (table_of s) (entry_of s) (ltb o.count 16) c.args.resource) h.same);
       granted = search rules;
       refused = search rules;
     }

@@ -3,7 +3,7 @@ use Rattle.std.proofs.Common.{ap, ◌∙◌}
 use Rattle.protocol.specs.Checks.{resume}
 use Rattle.scheduler.proofs.Sizes.{sized}
 use Rattle.scheduler.proofs.Ends.{refused_replied, granted_replied}
-use Rattle.scheduler.proofs.Asking.{grants}
+use Rattle.scheduler.proofs.Asking.{grants_index}
 use Rattle.arrays.specs.View.{own_number}
 use Rattle.scheduler.proofs.Doing.{resume_done}
 use Rattle.scheduler.proofs.Scheduler.resume.Goals as goal
@@ -14,5 +14,5 @@ returns-in-Err c =
 
 pub returns : goal.returns
 returns c =
-    let G = grants (sized c.args.self c.well_formed.0) c.in-Ok.ensures in
-    c.settled.ensures.told ∙ granted_replied c.settled.ensures.sized (resume_done G (c.number.ensures ∙ ap own_number c.admission.ensures))
+    let G = grants_index c.index-at.ensures.0 (sized c.args.self c.well_formed.0) c.in-Ok.ensures in
+    c.settled.ensures.told ∙ granted_replied c.settled.ensures.sized (resume_done G (rw c.index-at.ensures.0 (c.number.ensures ∙ ap own_number c.admission.ensures)))

@@ -3,7 +3,7 @@ use Rattle.std.proofs.Common.{◌∙◌}
 use Rattle.protocol.specs.Checks.{suspend}
 use Rattle.scheduler.proofs.Sizes.{sized}
 use Rattle.scheduler.proofs.Ends.{refused_replied, granted_replied}
-use Rattle.scheduler.proofs.Asking.{grants}
+use Rattle.scheduler.proofs.Asking.{grants_index}
 use Rattle.scheduler.proofs.Doing.{suspend_done}
 use Rattle.scheduler.proofs.Scheduler.suspend.Goals as goal
 
@@ -13,5 +13,5 @@ returns-in-Err c =
 
 pub returns : goal.returns
 returns c =
-    let G = grants (sized c.args.self c.well_formed.0) c.in-Ok.ensures.ruled in
+    let G = grants_index c.index-at.ensures.0 (sized c.args.self c.well_formed.0) c.in-Ok.ensures.ruled in
     c.settled.ensures.told ∙ granted_replied c.settled.ensures.sized (suspend_done G c.number.ensures)

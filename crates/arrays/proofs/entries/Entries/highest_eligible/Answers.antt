@@ -13,6 +13,6 @@ loop-i-init c = refl
 pub loop-i-preserved : goal.loop-i-preserved
 loop-i-preserved c = largest_on (eligible_priority (tasks_of c.args.tasks.now) (entries_of c.args.self.now) c.args.system) c.loop-i.i _
     (c.max-highest.ensures ∙ ap₂ max c.loop-i.invariant (elim c.if-eligible.branch [
-      | then-eligible w ↦ rw (← c.status.ensures, ← c.is_eligible-eligible.ensures, w.if-eligible.true) w.counted-is
-      | else-eligible w ↦ rw (← c.status.ensures, ← c.is_eligible-eligible.ensures, w.if-eligible.false) w.counted-is
+      | then-eligible w ↦ rw (← c.of.ensures, ← c.is_eligible-eligible.ensures, w.if-eligible.true) w.counted-is
+      | else-eligible w ↦ rw (← c.of.ensures, ← c.is_eligible-eligible.ensures, w.if-eligible.false) w.counted-is
     ]))

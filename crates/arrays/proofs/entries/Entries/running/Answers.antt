@@ -16,16 +16,16 @@ returns-then-leads-clause-found c =
     let f = entries_of c.args.self.now in
     let system = c.system_priority-system.result in
     let highest = c.highest_eligible-highest.result in
-    sym (first_here (leads T f system highest) c.loop-i.i c.args.tasks.now.count c.loop-i.invariant
-    (rw (← c.status.ensures, ← c.is_leading-leads.ensures) c.if-leads.true) c.loop-i-test.true)
-    ∙ running_found T f system highest c.system_priority-system.ensures c.highest_eligible-highest.ensures
+    rw c.new.ensures (sym (first_here (leads T f system highest) c.loop-i.i c.args.tasks.now.count c.loop-i.invariant
+    (rw (← c.of.ensures, ← c.is_leading-leads.ensures) c.if-leads.true) c.loop-i-test.true)
+    ∙ running_found T f system highest c.system_priority-system.ensures c.highest_eligible-highest.ensures)
 
 pub loop-i-preserved : goal.loop-i-preserved
 loop-i-preserved c =
     let T = tasks_of c.args.tasks.now in
     let f = entries_of c.args.self.now in
     first_on (leads T f c.system_priority-system.result c.highest_eligible-highest.result) c.loop-i.i c.loop-i.invariant
-    (rw (← c.status.ensures, ← c.is_leading-leads.ensures) c.if-leads.false)
+    (rw (← c.of.ensures, ← c.is_leading-leads.ensures) c.if-leads.false)
 
 pub returns-clause-found : goal.returns-clause-found
 returns-clause-found c =

@@ -15,8 +15,8 @@ loop-i-init c = refl
 pub loop-i-preserved : goal.loop-i-preserved
 loop-i-preserved c = largest_on (started_setting (tasks_of c.args.tasks.now) (entries_of c.args.self.now)) c.loop-i.i _
     (c.max-highest.ensures ∙ ap₂ max c.loop-i.invariant (elim c.if-counts.branch [
-      | then-counts w ↦ rw (← c.status.ensures, ← c.is_unfinished.ensures, w.if-counts.true) w.counted-is
-      | else-counts w ↦ rw (← c.status.ensures, ← c.is_unfinished.ensures, w.if-counts.false) w.counted-is
+      | then-counts w ↦ rw (← c.of.ensures, ← c.is_unfinished.ensures, w.if-counts.true) w.counted-is
+      | else-counts w ↦ rw (← c.of.ensures, ← c.is_unfinished.ensures, w.if-counts.false) w.counted-is
     ]))
 
 pub returns : goal.returns

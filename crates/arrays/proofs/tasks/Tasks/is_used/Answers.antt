@@ -15,11 +15,11 @@ pub returns-then-count_at-gt0 : goal.returns-then-count_at-gt0
 unfolding used
 returns-then-count_at-gt0 c =
     sym (some_true (uses_it (tasks_of c.args.self.now) c.args.resource) c.args.self.now.count c.loop-i.i c.loop-i-test.true
-    (lt-ltb 0 (count_of c.args.self.now.uses c.loop-i.i c.args.resource) (omega (arith, c.count_at.ensures))))
+    (rw (← c.new.ensures) (lt-ltb 0 (count_of c.args.self.now.uses c.new.result c.args.resource) (omega (arith, c.count_at.ensures)))))
 
 pub loop-i-preserved : goal.loop-i-preserved
 loop-i-preserved c = some_on (uses_it (tasks_of c.args.self.now) c.args.resource) c.loop-i.i c.loop-i.invariant
-    (le-ltb 0 (count_of c.args.self.now.uses c.loop-i.i c.args.resource) (omega (arith, c.count_at.ensures)))
+    (rw (← c.new.ensures) (le-ltb 0 (count_of c.args.self.now.uses c.new.result c.args.resource) (omega (arith, c.count_at.ensures))))
 
 pub returns : goal.returns
 unfolding used

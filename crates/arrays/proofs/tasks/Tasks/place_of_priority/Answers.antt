@@ -8,5 +8,5 @@ pub returns-clause-found : goal.returns-clause-found
 returns-clause-found c =
     let t = c.args.self.now in
     let within : t.count ≤ length t.priorities = search rules in
-    let found : FirstOf (take t.count t.priorities) c.args.priority c.position.result = search (rules, chains) in
-    found_first t.priorities c.args.priority t.count c.position.result within found
+    let found : FirstOf (take t.count t.priorities) c.args.priority c.map.result = search (rules, chains) in
+    found_first t.priorities c.args.priority t.count c.map.result within found
