@@ -10,8 +10,8 @@ use crate::marks::woken;
 use crate::{Number, Place, Status, Tasks};
 
 // An entry for each task, by its place: the job's state (0 none, 1 ready, 2 waiting, 3 asleep, and any other number none), whether it is started,
-// its sleeps, the sections opened of each resource, the resource held, and the serial that the next release takes. States stay numbers, since a
-// host may make up a state with any, and a refusal hands it back as it is.
+// its sleeps, the sections opened of each resource, the resource held, and the serial that the next release takes. States and held resources
+// stay numbers, since a host may make up a state with any, and a refusal hands it back as it is.
 #[derive(Clone, Copy)]
 pub struct Entries {
     pub states: [u8; 32],

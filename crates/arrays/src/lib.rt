@@ -1,6 +1,6 @@
 // The arrays of the lock scheduler in three structs, tasks, entries and open sections: each scan and store is the machine's own search or change.
-// They are arrays of a fixed size beside a count, as nothing is allocated, and one array to a field, as scans over one become wide instructions
-// (docs/PERFORMANCE.md).
+// They are arrays of a fixed size beside a count, as nothing is allocated; those of tasks and entries are one to a field, as scans over one become
+// wide instructions (docs/DESIGN-PASS.md has what an array of records took).
 #![tactic(auto)]
 
 mod counts;
