@@ -6,7 +6,8 @@ ghost use Rattle.arrays.specs.Places.{place_of};
 ghost use Rattle.scheduler.specs.View.{Sized, table_of, entry_of};
 ghost use Rattle.scheduler.specs.Replies.{running_of, runs, refused_reply, settled_reply};
 
-use crate::{Denial, Number, Place, Reply, Scheduler};
+use crate::{Denial, Number, Reply, Scheduler};
+use arrays::Place;
 
 impl Scheduler {
     // The number of the latest job at a place.

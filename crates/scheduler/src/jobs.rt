@@ -7,8 +7,8 @@ ghost use Rattle.arrays.specs.Statuses.{status_seen};
 ghost use Rattle.scheduler.specs.View.{table_of, state_of};
 ghost use Rattle.scheduler.specs.Replies.{replied};
 
-use crate::{Number, Place, Reply, Scheduler};
-use arrays::{Status, admitted};
+use crate::{Number, Reply, Scheduler};
+use arrays::{Place, Status, admitted};
 
 impl Scheduler {
     // The system ceiling: that of the last opened section still open, else 0.

@@ -11,7 +11,7 @@ mod ruling;
 mod sections;
 mod setup;
 
-pub use arrays::{Denial, Entries, Number, Place, Sections, Tasks};
+pub use arrays::{Denial, Entries, Number, Sections, Tasks};
 pub use calls::Call;
 pub use setup::{SetUp, set_up};
 

@@ -7,7 +7,8 @@ ghost use Rattle.arrays.specs.Rulings.{Roomy};
 ghost use Rattle.scheduler.specs.View.{table_of, state_of};
 ghost use Rattle.scheduler.specs.Rulings.{Ruled, by_number, ruling_on};
 
-use crate::{Denial, Number, Place, Scheduler};
+use crate::{Denial, Number, Scheduler};
+use arrays::Place;
 
 impl Scheduler {
     // An unfit state is refused before all else.
