@@ -14,6 +14,7 @@ pub fn own_settings(table: &Table) -> [u8; 32]
     ensures { result ≡ own_settings table.now.bytes.now table.now.shape.tasks }
 {
     let mut settings = [0u8; 32];
+    // `array::from_fn` leaves the fact of each element open
     for i in 0..table.shape.tasks {
         settings[i] = table.task(i).setting;
     }
@@ -31,7 +32,7 @@ pub fn deadlines(table: &Table, vector: &mut [u64])
 }
 
 impl Rounds<'_> {
-    // The rounds, from the deadlines on.
+    // The rounds, from the deadlines on. Vector and marks are lent apart: of a struct of two `&mut` a caller is not told what they hold in the end.
     pub fn settle(&self, vector: &mut [u64], bounds: &mut [bool; 32]) -> Result<u64, Spent>
         requires vector_len { length vector.old ≡ self.now.equations.table.shape.tasks }
         requires marks { Marks self.now.equations.table.shape.tasks bounds.old }

@@ -1,4 +1,4 @@
-// Counts by place and resource: sixteen stand for each place, for the resources 1 to 16.
+// Counts by place and resource: sixteen stand for each place, for the resources 1 to 16, in one list, which `count_of` and its laws read.
 ghost use Rattle.std.specs.Prelude.{◌≡◌};
 ghost use Rattle.arrays.specs.View.{count_of};
 

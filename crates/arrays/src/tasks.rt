@@ -52,6 +52,7 @@ impl Tasks {
         requires { self.now.count ≤ 32 }
         ensures { result ≡ used (tasks_of self.now) resource }
     {
+        // `any` leaves the false side open
         for i in 0..self.count {
             if 0 < count_at(&self.uses, Place::new(i), resource) {
                 return true;

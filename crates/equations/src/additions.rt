@@ -46,6 +46,7 @@ impl Equations<'_> {
         ensures { (result ≡ additions (seen self.now) at.task vector.now at.length) × (result ≤ 64000000000000) }
     {
         let mut sum = 0;
+        // `map(..).sum()` leaves `sum-requires-clause-fits` and `returns` open
         for j in 0..at.task {
             sum += self.added(vector, at, j);
         }

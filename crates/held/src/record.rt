@@ -6,6 +6,7 @@ ghost use Rattle.held.specs.Writing.{word_bytes, task_bytes, use_bytes};
 
 use table::{Task, Use};
 
+// A record: its size, how it is read at a place, and how it is put there. The byte that begins it is the format's.
 pub trait Record: Copy {
     // how many bytes its record takes
     ghost SIZE: { ℕ };

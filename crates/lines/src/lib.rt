@@ -26,7 +26,8 @@ fn put_verdict(page: &mut Page, verdict: bool, evaluations: u64)
     }
 }
 
-// Puts the lines of an analysis: a refusal alone, or the verdict and every task.
+// Puts the lines of an analysis: a refusal alone, or the verdict and every task. How many tasks there are at most is asked here, and no fact of
+// `Analysis`, whose fields a host may set.
 fn put_lines(page: &mut Page, bytes: &[u8], analysis: &Analysis)
     requires tasks_bound { analysis.now.tasks ≤ 32 }
     requires room { length (lines_of bytes.now analysis.now) ≤ room page.old }

@@ -25,7 +25,8 @@ pub use causes::Cause;
 pub use columns::Column;
 use words::Page;
 
-// A fault of a text: its line, its cause, and what that speaks of: a column, the place of a word, two values.
+// A fault of a text: its line, its cause, and what that speaks of: a column, the place of a word, two values. They stand side by side, 0 where the
+// cause speaks of none, since `fault_line` answers for every fault.
 #[derive(Clone, Copy, PartialEq, Eq, Debug)]
 pub struct Fault {
     pub line: usize,

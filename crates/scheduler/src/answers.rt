@@ -27,7 +27,8 @@ impl Scheduler {
         self.number_at(&self.entries.running(&self.tasks))
     }
 
-    // The answer of a refused call: who runs, nobody where the state is unfit, and the state as it is.
+    // The answer of a refused call: who runs, nobody where the state is unfit, and the state as it is. Each call matches on its ruling and hands a
+    // refusal here: a body by `?` would answer the state in a `Result`, and each call would need a second function to make the reply of it.
     pub(crate) fn refused(self, denial: Denial) -> Reply
         requires { denial ≢ Unfit → self.tasks.count ≤ 32 }
         ensures { result ≡ refused_reply self denial }

@@ -18,6 +18,7 @@ fn column(bytes: &[u8], tasks: usize, field: usize) -> [u8; 32]
     ensures { result ≡ column bytes.now tasks field }
 {
     let mut numbers = [0u8; 32];
+    // `array::from_fn` leaves the fact of each element open
     for i in 0..tasks {
         numbers[i] = table::byte_at(bytes, 20 * i + field);
     }

@@ -15,6 +15,7 @@ fn length(input: &mut impl Read) -> Result<usize, Stop>
 }
 
 // Prints the line of a table's text: length and checksum of what show prints, then of what pack makes of that, a table or the line of a fault.
+// What is tried is the program's reply, and the first byte of a table's is 1.
 pub fn put_shown(out: &mut impl Write, bytes: &[u8]) -> io::Result<()> {
     let mut text = [0; 262144];
     let length = notation::show(bytes, &mut text);
