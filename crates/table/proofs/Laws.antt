@@ -1,6 +1,6 @@
 -- Laws of the definitions that the functions' proofs cite.
 use Prim.Native.Nat.{ℕ, zero, suc, ◌+◌, ◌*◌, ◌≤◌, ◌<◌}
-use mathlib.Core.Path.{◌≡◌, refl, ap, ◌∙◌}
+use mathlib.Core.Path.{◌≡◌, refl, sym, ap, subst, ◌∙◌}
 use mathlib.Core.Bool.{Bool, true, false, cond}
 use mathlib.Core.List.{List}
 use lib.Dec.{eqb}
@@ -9,7 +9,12 @@ use native.Mathlib.Omega.{arith}
 use native.Mathlib.Decide.{ℕ_discrete}
 use borrow.Author.Tests.{eq-eqb, ne_eqb, eqb-true}
 use Rattle.table.specs.Fields.{word_at, no_task, no_use, task_at, use_at}
-use Rattle.table.specs.Rules.{place_from}
+use Rattle.std.specs.Prelude.{Result, Ok, Err}
+use Rattle.table.specs.declared.Refusal.{Refusal}
+use Rattle.table.specs.declared.walk.Walk.{Walk}
+use Rattle.table.specs.Rules.{Ruling, stands, place_from}
+use Rattle.table.specs.Reading.{ruled}
+use Rattle.table.specs.Sound.{Sound, Stepped, sound_next}
 
 -- ---- past the end all bytes read as 0
 module _ (s : List ℕ) (i : ℕ) (past : length s ≤ i) where
@@ -23,6 +28,15 @@ module _ (s : List ℕ) (i : ℕ) (past : length s ≤ i) where
       let b = get_or-eq_default s 0 {n = i + k + 1} (omega arith) in
       let c = get_or-eq_default s 0 {n = i + k + 2} (omega arith) in
       let d = get_or-eq_default s 0 {n = i + k + 3} (omega arith) in
+      omega arith
+
+  pub word_past : word_at s i ≡ 0
+  unfolding word_at
+  word_past =
+      let a = get_or-eq_default s 0 {n = i} past in
+      let b = byte_past 1 in
+      let c = byte_past 2 in
+      let d = byte_past 3 in
       omega arith
 
   pub task_past : no_task ≡ task_at s i
@@ -80,3 +94,12 @@ place_none zero s i p f = omega arith
 place_none (suc k) s i p f =
     let more = place_none k s (i + 1) p (λ n a b. f n (omega arith) (omega arith)) in
     rw (ne_eqb (get_or s (20 * i + 1) 0) p (f i (omega arith) (omega arith))) (omega arith)
+
+-- ---- a step by a rule: on where the rule passes the record, else its refusal
+pub ruled_step : (s : List ℕ) (w : Walk) (meant r : Result Walk Refusal) (k : Ruling) (place : ℕ) (n : Walk) → r ≡ ruled k place n → meant ≡ ruled k place n
+    → (k ≡ stands → Sound s n × (w.at < n.at)) → Stepped s w meant r
+ruled_step s w meant r k place n e f g = record { same = e ∙ sym f; sound = subst (sound_next s w) (sym e) (go k refl) }
+  where
+    go : (x : Ruling) → k ≡ x → sound_next s w (ruled x place n)
+    go (Ok tt) q = g q
+    go (Err y) q = tt

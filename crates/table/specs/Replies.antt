@@ -17,14 +17,20 @@ why_number Allowance = 8
 why_number Rows = 9
 why_number Room = 10
 
+-- what an answer tells of its refusal
+abbrev pub told_of : {A R : Type 0} → (R → ℕ) → Result A R → ℕ
+told_of f (Ok answer) = 0
+told_of f (Err refusal) = f refusal
+
 abbrev pub number_of : {A : Type 0} → Result A Refusal → ℕ
-number_of (Ok answer) = 0
-number_of (Err refusal) = why_number refusal.why
+number_of = told_of (λ r. why_number r.why)
 
 abbrev pub place_of : {A : Type 0} → Result A Refusal → ℕ
-place_of (Ok answer) = 0
-place_of (Err refusal) = refusal.place
+place_of = told_of (λ r. r.place)
 
 -- as "refused 6 at 48"
+abbrev pub told_text : ℕ → ℕ → List ℕ
+told_text number place = codes "refused " ++ decimal number ++ codes " at " ++ decimal place
+
 abbrev pub refusal_text : Refusal → List ℕ
-refusal_text r = codes "refused " ++ decimal (why_number r.why) ++ codes " at " ++ decimal r.place
+refusal_text r = told_text (why_number r.why) r.place

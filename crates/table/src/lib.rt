@@ -3,16 +3,18 @@
 
 ghost use Rattle.std.specs.Prelude.{◌≡◌, Some};
 ghost use Rattle.table.specs.Reading.{read_table};
-ghost use Rattle.table.specs.Replies.{number_of, place_of, refusal_text, why_number};
+ghost use Rattle.table.specs.Replies.{told_of, refusal_text, why_number};
 ghost use Rattle.table.specs.Records.{record_of};
 
 mod accepted_table;
 mod fields;
+mod numbered;
 mod rules;
 mod walk;
 
 pub use accepted_table::Table;
 pub use fields::{byte_at, no_task, no_use, task_at, use_at, whole_word, word_at};
+pub use numbered::{Numbered, Refuses};
 pub use rules::place_of;
 use std::error::Error;
 use std::fmt;
@@ -133,22 +135,22 @@ pub fn read(bytes: &[u8]) -> Result<Shape, Refusal>
 }
 
 // The number of a refusal, 0 of any other answer.
-pub fn number<T: Drop>(answer: Result<T, Refusal>) -> u8
-    ensures { result ≡ number_of answer }
+pub fn number<T: Drop, R: Refuses>(answer: Result<T, R>) -> u8
+    ensures { result ≡ told_of R.numbered answer }
 {
-    match answer {
+    match &answer {
         Ok(_) => 0,
-        Err(refusal) => refusal.why.number(),
+        Err(refusal) => refusal.number(),
     }
 }
 
 // The place of a refusal, 0 of any other answer.
-pub fn place<T: Drop>(answer: Result<T, Refusal>) -> usize
-    ensures { result ≡ place_of answer }
+pub fn place<T: Drop, R: Refuses>(answer: Result<T, R>) -> usize
+    ensures { result ≡ told_of R.placed answer }
 {
-    match answer {
+    match &answer {
         Ok(_) => 0,
-        Err(refusal) => refusal.place,
+        Err(refusal) => refusal.place(),
     }
 }
 
