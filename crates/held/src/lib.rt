@@ -12,7 +12,7 @@ mod record;
 
 pub use record::put_word;
 pub use table::{number, place};
-use table::{Refusal, Shape, Task, Use, Why};
+use table::{Refusal, Refuses, Shape, Task, Use, Why};
 
 // A table of at most 32 tasks and 512 uses. Entries past the counts don't count: memory is fixed, so there is no list that grows.
 #[derive(Clone, Copy)]
@@ -42,7 +42,7 @@ pub fn load(bytes: &[u8]) -> Loaded
 }
 
 // How many bytes an answer has written.
-pub fn count(answer: Result<usize, Refusal>) -> usize
+pub fn count<R: Refuses>(answer: Result<usize, R>) -> usize
     ensures { result ≡ count_of answer }
 {
     answer.unwrap_or(0)

@@ -28,8 +28,13 @@ spelled (suc k) (suc m) n l f =
     let rest : IsDigitCount 10 1 (n / 10) (suc k) = (omega arith, omega (arith, f.1), λ e. rw (one_less k) (omega arith)) in
     rw (le-ltb n 10 (omega arith)) (ap₂ (λ (x : List ℕ) (d : ℕ). x ++ (d ∷ [])) (spelled k m (n / 10) (omega arith) rest) (figure (n % 10) (omega arith)))
 
+-- what is spelled of a number in 20 digits at most is its decimal digits
+pub decimal_is : (k n : ℕ) → k ≤ 20 → IsDigitCount 10 1 n k → last_digits 10 k n ≡ decimal n
+decimal_is zero n l f = absurd (omega (arith, f.0))
+decimal_is (suc k) n l f = spelled k 19 n (omega arith) f
+
 -- a number of 64 bits has at most 20 digits
-digits_most : (k n : ℕ) → n < 18446744073709551616 → IsDigitCount 10 1 n k → k ≤ 20
+pub digits_most : (k n : ℕ) → n < 18446744073709551616 → IsDigitCount 10 1 n k → k ≤ 20
 digits_most k n l f = go (dec_le k 20)
   where
     go : Dec (k ≤ 20) → k ≤ 20
@@ -38,5 +43,4 @@ digits_most k n l f = go (dec_le k 20)
 
 -- what is spelled of a number of 64 bits is its decimal digits
 pub decimal_spelled : (k n : ℕ) → n < 18446744073709551616 → IsDigitCount 10 1 n k → last_digits 10 k n ≡ decimal n
-decimal_spelled zero n l f = absurd (omega (arith, f.0))
-decimal_spelled (suc k) n l f = spelled k 19 n (omega (arith, digits_most (suc k) n l f)) f
+decimal_spelled k n l f = decimal_is k n (digits_most k n l f) f

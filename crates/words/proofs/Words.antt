@@ -1,12 +1,14 @@
 -- Laws of words and numbers in a text.
 use Prim.Native.Nat.{ℕ, zero, suc, ◌+◌, ◌*◌, ◌/◌, ◌%◌, ◌^◌, ◌≤◌, ◌<◌}
-use mathlib.Core.Path.{◌≡◌, refl, ap, ◌∙◌}
-use mathlib.Core.Bool.{Bool, true, ◌&&◌}
+use mathlib.Core.Path.{◌≡◌, refl, ap, ap₂, ◌∙◌}
+use mathlib.Core.Bool.{Bool, true, false, ◌&&◌}
 use mathlib.Core.List.{List, [], ◌∷◌, ◌++◌}
 use native.Mathlib.Nat.{pow-zero, pow-suc}
 use native.Mathlib.Numerals.{add-one}
 use native.Mathlib.Omega.{arith}
 use lib.Dec.{eqb}
+use borrow.Author.Tests.{eqb-true}
+use Rattle.searches.proofs.Testing.{impossible}
 use lib.ListN.{length, take, drop, get_or}
 use Rattle.std.proofs.lemmas.Grind.{common_steps}
 use lib.Pointwise.{pointwise}
@@ -17,7 +19,8 @@ use Rattle.table.specs.declared.Refusal.{Refusal}
 use Rattle.table.specs.Replies.{why_number}
 use Rattle.words.specs.Text.{text, digits_in, decimal, labelled, joined}
 use Rattle.words.specs.Refusing.{refusal_line}
-use Rattle.words.specs.Finding.{lead, in_class, digit, same, is_number, with_digit, value_on, value_of, printable, printables, found_text}
+use Rattle.words.specs.Classes.{class_number, class_of}
+use Rattle.words.specs.Finding.{lead, in_class, run_end, digit, same, is_number, with_digit, value_on, value_of, printable, printables, found_text}
 
 -- ---- a run of bytes
 
@@ -35,6 +38,17 @@ lead_taken p s = length-take-le (prefix_len p s) s (prefix_len-le-length p s) �
 pub lead_past : (p : ℕ → Bool) (s : List ℕ) (at : ℕ) → length s ≤ at → at + lead p (drop at s) ≡ at
 unfolding lead
 lead_past p s at l = grind (arith, common_steps)
+
+-- a class has the bytes that its number has, whatever the number is
+pub class_told : (n b : ℕ) → in_class (class_number (class_of n)) b ≡ in_class n b
+class_told zero b = refl
+class_told (suc zero) b = refl
+class_told (suc (suc zero)) b = refl
+class_told (suc (suc (suc n))) b = grind (arith, common_steps)
+
+-- so a run of the class ends where one of the number does
+pub run_told : (s : List ℕ) (at n : ℕ) → run_end s at (class_number (class_of n)) ≡ run_end s at n
+run_told s at n = λ i. at + lead (λ b. class_told n b i) (drop at s)
 
 -- a run that is a whole text goes on in the text after it
 pub lead_all : (p : ℕ → Bool) (t rest : List ℕ) → lead p t ≡ length t → lead p (t ++ rest) ≡ length t + lead p rest
@@ -57,6 +71,26 @@ pub same_refl : (t : List ℕ) → same t t ≡ true
 unfolding same
 same_refl [] = refl
 same_refl (b ∷ t) = grind (arith, common_steps, same_refl t)
+
+-- texts that test the same are equal
+pub same_is : (s t : List ℕ) → same s t ≡ true → s ≡ t
+unfolding same
+same_is [] [] e = refl
+same_is [] (b ∷ t) e = absurd (impossible cc)
+same_is (a ∷ s) [] e = absurd (impossible cc)
+same_is (a ∷ s) (b ∷ t) e = go (eqb a b) refl e (same_is s t)
+  where
+    go : (x : Bool) → eqb a b ≡ x → x && same s t ≡ true → (same s t ≡ true → s ≡ t) → a ∷ s ≡ b ∷ t
+    go true q f rest = ap₂ (λ (c : ℕ) (r : List ℕ). c ∷ r) (eqb-true a b q) (rest f)
+    go false q f rest = absurd (impossible cc)
+
+-- texts that differ in length differ
+pub same_sized : (s t : List ℕ) → (length s ≡ length t → ⊥) → same s t ≡ false
+same_sized s t h = go (same s t) refl
+  where
+    go : (x : Bool) → same s t ≡ x → x ≡ false
+    go true q = absurd (h (ap length (same_is s t q)))
+    go false q = refl
 
 -- ---- the value of digits
 

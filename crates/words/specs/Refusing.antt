@@ -4,6 +4,10 @@ use Rattle.table.specs.declared.Refusal.{Refusal}
 use Rattle.table.specs.Replies.{why_number}
 use Rattle.words.specs.Text.{text, labelled, newline}
 
--- a refusal, with its place
+-- a refusal by its number, with its place
+abbrev pub refused_line : ℕ → ℕ → List ℕ
+refused_line number place = labelled (text "refused ") number ++ (labelled (text " at ") place ++ newline)
+
+-- a refusal
 abbrev pub refusal_line : Refusal → List ℕ
-refusal_line f = labelled (text "refused ") (why_number f.why) ++ (labelled (text " at ") f.place ++ newline)
+refusal_line f = refused_line (why_number f.why) f.place

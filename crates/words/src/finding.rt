@@ -1,6 +1,6 @@
 // Where words stand in a text, and what numbers they are.
 ghost use Rattle.std.specs.Prelude.{◌≡◌, ◌≤◌, length, take_while};
-ghost use Rattle.words.specs.Classes.{class_number};
+ghost use Rattle.words.specs.Classes.{class_number, class_of};
 ghost use Rattle.words.specs.Finding.{blank, in_class, run_end, same, with_digit, value_of};
 
 // A class of bytes: blanks, what a word has, what a line has, digits.
@@ -20,6 +20,18 @@ fn is_blank(byte: u8) -> bool
 }
 
 impl Class {
+    // The class with a number: 0 blanks, 1 what a word has, 2 what a line has, and digits from 3 on.
+    pub fn of(number: u8) -> Class
+        ensures { result ≡ class_of number }
+    {
+        match number {
+            0 => Class::Blank,
+            1 => Class::Word,
+            2 => Class::Line,
+            _ => Class::Digit,
+        }
+    }
+
     // Whether a byte is of the class.
     fn has(self, byte: u8) -> bool
         ensures { result ≡ in_class (class_number self) byte }

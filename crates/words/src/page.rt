@@ -2,7 +2,7 @@
 ghost use Rattle.std.specs.Prelude.{◌≡◌, ◌≤◌, length, take, drop};
 ghost use Rattle.words.specs.Finding.{printable};
 
-use table::Refusal;
+use table::Refuses;
 
 // A lent buffer, and the place up to which text was put. It has no model: with one a caller is not told what the buffer holds in the end.
 #[derive(Drop)]
@@ -22,7 +22,7 @@ fn printable(byte: u8) -> u8
 impl<'a> Page<'a> {
     ghost use Rattle.words.specs.Text.{labelled};
     ghost use Rattle.words.specs.Finding.{printables, found_text};
-    ghost use Rattle.words.specs.Refusing.{refusal_line};
+    ghost use Rattle.words.specs.Refusing.{refused_line};
     ghost use Rattle.words.specs.Sheet.{blank};
     ghost use Rattle.words.specs.Pages.{sheet, room, Puts};
 
@@ -102,12 +102,12 @@ impl<'a> Page<'a> {
     }
 
     // Puts the line of a refusal. A `write!` of it says what is put where the answer is Ok, but not that it is Ok on a page with room.
-    pub fn refusal(&mut self, refusal: Refusal)
-        requires { length (refusal_line refusal) ≤ room self.old }
-        ensures { Puts self.old (refusal_line refusal) self.new }
+    pub fn refusal<R: Refuses>(&mut self, refusal: R)
+        requires { length (refused_line (R.numbered refusal) (R.placed refusal)) ≤ room self.old }
+        ensures { Puts self.old (refused_line (R.numbered refusal) (R.placed refusal)) self.new }
     {
-        self.number(b"refused ", u64::from(refusal.why.number()));
-        self.number(b" at ", refusal.place as u64);
+        self.number(b"refused ", u64::from(refusal.number()));
+        self.number(b" at ", refusal.place() as u64);
         self.text(b"\n");
     }
 }
