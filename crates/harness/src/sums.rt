@@ -1,5 +1,5 @@
 // Checksums.
-ghost use Rattle.std.specs.Prelude.{◌≡◌, ℕ, ◌<◌};
+ghost use Rattle.std.specs.Prelude.{◌≡◌, ℕ};
 ghost use Rattle.harness.specs.Sums.{after_number, after_numbers};
 
 use std::fmt;
@@ -8,7 +8,6 @@ use std::fmt;
 #[derive(Clone, Copy)]
 pub struct Checksum {
     pub value: u64,
-    pub ghost reduced: { value < 1000003 },
 }
 
 impl Checksum {
@@ -23,10 +22,10 @@ impl Checksum {
     pub fn with<N: Into<u64>>(self, number: N) -> Checksum
         ensures { (x : ℕ) × N.converts number x × (result.value ≡ after_number self.value x) }
     {
-        // the number is reduced first, so that the sum fits
+        // both are reduced first, so that the product and the sum fit whatever they are
         let number = number.into() % 1000003;
         Checksum {
-            value: (self.value * 257 + number) % 1000003,
+            value: (self.value % 1000003 * 257 + number) % 1000003,
         }
     }
 
