@@ -1,32 +1,21 @@
 // Cases that write a held table.
-ghost use Rattle.std.specs.Prelude.{◌<◌};
-
 use harness::input::{Stop, byte, fill, record};
 use harness::sums::Checksum;
 use held::Table;
+use std::array::from_fn;
 use std::io;
 use std::io::{Read, Write};
 
-// Reads an image for each of some entries. An image has so many bytes, those of a record without its first.
-fn read_images<T: Drop, F: Fn(&[u8]) -> T>(
-    input: &mut impl Read,
-    entries: &mut [T],
-    size: usize,
-    entry_of: F,
-) -> Result<(), Stop>
-    requires size { size < 20 }
-    requires callable { F.IsAlwaysCallable entry_of }
-{
-    for entry in entries {
-        let mut record = [0; 20];
-        fill(input, &mut record[1..=size])?;
-        *entry = entry_of(&record);
-    }
-    Ok(())
+// Reads so many bytes of images into a buffer, whose first byte stays: the place of a kind. Where they don't fit, the cases are over.
+fn read_images(input: &mut impl Read, images: &mut [u8], length: usize) -> Result<(), Stop> {
+    let part = images.get_mut(1..=length).ok_or(Stop::Over)?;
+    fill(input, part)
 }
 
-// Writes a table to a buffer and prints the line of that.
-fn put_line(out: &mut impl Write, table: Table, buffer: &mut [u8]) -> io::Result<()> {
+// Writes a table to a buffer with so much room and prints the line of that.
+fn put_line(out: &mut impl Write, table: Table, room: u16) -> io::Result<()> {
+    let mut buffer = [170; 65535];
+    let buffer = &mut buffer[..usize::from(room)];
     match held::write(table, buffer) {
         Ok(length) => write!(out, "written {length}")?,
         Err(refusal) => write!(out, "{refusal}")?,
@@ -38,22 +27,19 @@ fn put_line(out: &mut impl Write, table: Table, buffer: &mut [u8]) -> io::Result
 pub fn run(input: &mut impl Read, out: &mut impl Write) -> Result<(), Stop> {
     let task_count = usize::from_le_bytes(record(input)?);
     let use_count = usize::from_le_bytes(record(input)?);
-    let room = usize::from(u16::from_le_bytes(record(input)?));
-    let mut tasks = [table::no_task(); 32];
+    let room = u16::from_le_bytes(record(input)?);
+    let mut tasks = [0; 609];
     let count = usize::from(byte(input)?);
-    let entries = tasks.get_mut(..count).ok_or(Stop::Over)?;
-    read_images(input, entries, 19, |record| table::task_at(record, 0))?;
-    let mut uses = [table::no_use(); 512];
+    read_images(input, &mut tasks, 19 * count)?;
+    let mut uses = [0; 3585];
     let count = usize::from(u16::from_le_bytes(record(input)?));
-    let entries = uses.get_mut(..count).ok_or(Stop::Over)?;
-    read_images(input, entries, 7, |record| table::use_at(record, 0))?;
-    let mut buffer = [170; 65535];
+    read_images(input, &mut uses, 7 * count)?;
     let table = Table {
-        tasks,
+        tasks: from_fn(|i| table::task_at(&tasks, 19 * i)),
         task_count,
-        uses,
+        uses: from_fn(|i| table::use_at(&uses, 7 * i)),
         use_count,
     };
-    put_line(out, table, &mut buffer[..room])?;
+    put_line(out, table, room)?;
     Ok(())
 }
