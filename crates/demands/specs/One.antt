@@ -5,6 +5,7 @@ use Rattle.std.proofs.Common.{sym, ◌∙◌}
 use Rattle.table.specs.declared.Shape.{Shape}
 use Rattle.table.specs.declared.Refusal.{Refusal}
 use Rattle.table.specs.declared.Why.{Why}
+use Rattle.table.specs.declared.numbered.Numbered.{Numbered}
 use Rattle.table.specs.Reading.{Reading}
 use Rattle.table.specs.Fields.{word_at, no_task, no_use, task_at, use_at}
 use Rattle.table.specs.Replies as table-replies
@@ -62,6 +63,12 @@ pub record OneReply : Type 0 where
   pub why_numbers : (y : Why) → One (table-replies.why_number y)
   pub whys_at : (y : Why) (place : ℕ) → One {A = Refusal} (record { why = y; place = place })
   pub refusals_print : (r : Refusal) → One (table-replies.refusal_text r)
+  -- a refusal by its number, whatever that is: what it is made of, what it prints, and number, place and count of an answer with it
+  pub numbered : (r : Refusal) → One {A = Numbered} (record { number = table-replies.why_number r.why; place = r.place })
+  pub numbered_print : (r : Numbered) → One (table-replies.told_text r.number r.place)
+  pub told_numbers : (w : Result ℕ Numbered) → One (table-replies.told_of (λ r. r.number) w)
+  pub told_places : (w : Result ℕ Numbered) → One (table-replies.told_of (λ r. r.place) w)
+  pub told_counts : (w : Result ℕ Numbered) → One (held-replies.count_of w)
   -- table::record_of, byte_at, word_at, task_at, use_at, no_task, no_use
   pub records : (s : List ℕ) (p : ℕ) → One (record_of s p)
   pub bytes : (s : List ℕ) (at : ℕ) → One (get_or s at 0)
@@ -105,6 +112,11 @@ one_reply = record {
   why_numbers = λ y. one (table-replies.why_number y);
   whys_at = λ y place. one {A = Refusal} (record { why = y; place = place });
   refusals_print = λ r. one (table-replies.refusal_text r);
+  numbered = λ r. one {A = Numbered} (record { number = table-replies.why_number r.why; place = r.place });
+  numbered_print = λ r. one (table-replies.told_text r.number r.place);
+  told_numbers = λ w. one (table-replies.told_of (λ r. r.number) w);
+  told_places = λ w. one (table-replies.told_of (λ r. r.place) w);
+  told_counts = λ w. one (held-replies.count_of w);
   records = λ s p. one (record_of s p);
   bytes = λ s at. one (get_or s at 0);
   words = λ s at. one (word_at s at);
