@@ -40,23 +40,23 @@ task_lines_grow s a i (suc k) l = go (dec_lt i k) (task_lines_grow s a i k)
         rw last (omega (arith, longer))
 
 -- what a task is answered
-answer_few : (answer : TaskAnswer) → length (answer_text answer) ≤ 27
+pub answer_few : (answer : TaskAnswer) → length (answer_text answer) ≤ 27
 answer_few (Bound value) = grind (arith, common_steps, decimal_few value)
 answer_few (Conditional value) = grind (arith, common_steps, decimal_few value)
 answer_few Nothing = omega arith
 
 -- a task's line
-task_line_few : (task : Task) (answer : TaskAnswer) → length (task_line task answer) ≤ 80
+pub task_line_few : (task : Task) (answer : TaskAnswer) → length (task_line task answer) ≤ 80
 task_line_few task answer = grind (arith, common_steps, decimal_few task.priority, answer_few answer, decimal_few task.deadline)
 
 -- the lines of tasks
-task_lines_few : (s : List ℕ) (a : Analysis) (k : ℕ) → length (task_lines s a k) ≤ 80 * k
+pub task_lines_few : (s : List ℕ) (a : Analysis) (k : ℕ) → length (task_lines s a k) ≤ 80 * k
 unfolding task_lines
 task_lines_few s a zero = omega arith
 task_lines_few s a (suc k) = grind (arith, common_steps, task_lines_few s a k, task_line_few (task_of s k) (answer_at a k))
 
 -- the verdict
-verdict_few : (verdict : Bool) (evaluations : ℕ) → length (verdict_text verdict evaluations) ≤ 44
+pub verdict_few : (verdict : Bool) (evaluations : ℕ) → length (verdict_text verdict evaluations) ≤ 44
 verdict_few true evaluations = grind (arith, common_steps, decimal_few evaluations)
 verdict_few false evaluations = grind (arith, common_steps, decimal_few evaluations)
 

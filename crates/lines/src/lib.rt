@@ -15,8 +15,9 @@ use tasks::put_tasks;
 use words::Page;
 
 // Puts the verdict and the total.
+#[tactic(auto, using(words::proofs::Pages::pages, words::proofs::Words::decimal_few))]
 fn put_verdict(page: &mut Page, verdict: bool, evaluations: u64)
-    requires { length (verdict_text verdict evaluations) ≤ room page.old }
+    requires { 44 ≤ room page.old }
     ensures { Puts page.old (verdict_text verdict evaluations) page.new }
 {
     if verdict {
@@ -28,9 +29,10 @@ fn put_verdict(page: &mut Page, verdict: bool, evaluations: u64)
 
 // Puts the lines of an analysis: a refusal alone, or the verdict and every task. How many tasks there are at most is asked here, and no fact of
 // `Analysis`, whose fields a host may set.
+#[tactic(auto, using(words::proofs::Pages::pages, words::proofs::Words::refusal_few, crate::proofs::Puts::verdict_few))]
 fn put_lines(page: &mut Page, bytes: &[u8], analysis: &Analysis)
     requires tasks_bound { analysis.now.tasks ≤ 32 }
-    requires room { length (lines_of bytes.now analysis.now) ≤ room page.old }
+    requires room { 4096 ≤ room page.old }
     ensures { Puts page.old (lines_of bytes.now analysis.now) page.new }
 {
     if let Some(refusal) = analysis.refusal {
@@ -44,7 +46,7 @@ fn put_lines(page: &mut Page, bytes: &[u8], analysis: &Analysis)
 
 // What the bounds program prints of a table's bytes, at the front of a buffer; the answer is how long it is, and the rest of the buffer stays.
 // A buffer of less than 4,096 bytes stays as it is, and the answer is 0.
-#[tactic(auto, using(words::proofs::Pages::pages, analysis::proofs::Replies::tasks_most, crate::proofs::Puts::lines_few), unfolding(words::specs::Pages::sheet, words::specs::Sheet::onward))]
+#[tactic(auto, using(words::proofs::Pages::pages, analysis::proofs::Replies::tasks_most), unfolding(words::specs::Pages::sheet, words::specs::Sheet::onward))]
 pub fn bounds_lines(bytes: &[u8], allowance: u64, out: &mut [u8]) -> usize
     ensures put { Put out.old 0 (fitted 4096 (length out.old) (printed bytes.now allowance)) out.new result }
     ensures prefix_len { IsPrefixLen result out.new }

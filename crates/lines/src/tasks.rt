@@ -1,5 +1,5 @@
 // The lines of the tasks.
-ghost use Rattle.std.specs.Prelude.{◌≤◌, length};
+ghost use Rattle.std.specs.Prelude.{◌*◌, ◌≤◌};
 ghost use Rattle.lines.specs.Lines.{answer_text, task_line, task_lines};
 ghost use Rattle.words.specs.Pages.{room, Puts};
 
@@ -8,8 +8,9 @@ use table::Task;
 use words::Page;
 
 // Puts what a task is answered.
+#[tactic(auto, using(words::proofs::Pages::pages, words::proofs::Words::decimal_few))]
 fn put_answer(page: &mut Page, answer: TaskAnswer)
-    requires { length (answer_text answer) ≤ room page.old }
+    requires { 27 ≤ room page.old }
     ensures { Puts page.old (answer_text answer) page.new }
 {
     match answer {
@@ -20,8 +21,9 @@ fn put_answer(page: &mut Page, answer: TaskAnswer)
 }
 
 // Puts the line of a task.
+#[tactic(auto, using(words::proofs::Pages::pages, words::proofs::Words::decimal_few, crate::proofs::Puts::answer_few))]
 fn put_task(page: &mut Page, task: Task, answer: TaskAnswer)
-    requires { length (task_line task answer) ≤ room page.old }
+    requires { 80 ≤ room page.old }
     ensures { Puts page.old (task_line task answer) page.new }
 {
     page.number(b"", u64::from(task.priority));
@@ -34,7 +36,7 @@ fn put_task(page: &mut Page, task: Task, answer: TaskAnswer)
 #[tactic(auto, using(words::proofs::Pages::pages, crate::proofs::Puts::task_lines_none, crate::proofs::Puts::task_lines_more))]
 pub fn put_tasks(page: &mut Page, bytes: &[u8], analysis: &Analysis)
     requires tasks_bound { analysis.now.tasks ≤ 32 }
-    requires room { length (task_lines bytes.now analysis.now analysis.now.tasks) ≤ room page.old }
+    requires room { 80 * analysis.now.tasks ≤ room page.old }
     ensures { Puts page.old (task_lines bytes.now analysis.now analysis.now.tasks) page.new }
 {
     for i in 0..analysis.tasks {
