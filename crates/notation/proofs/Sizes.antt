@@ -44,8 +44,14 @@ width_most c =
     (chosen (λ (n : ℕ). n ≤ 7) (eqb c 0 || (eqb c 1 || eqb c 9)) (omega arith) (chosen (λ (n : ℕ). n ≤ 7) (eqb c 7) (omega arith) (omega arith)))
 
 -- what stands after a value
-spacing_most : (c : ℕ) → length (spacing c) ≤ 2
+pub spacing_most : (c : ℕ) → length (spacing c) ≤ 2
 spacing_most c = chosen (λ (x : List ℕ). length x ≤ 2) (eqb c 6 || eqb c 10) {x = newline} {y = text "  "} (omega arith) (omega arith)
+
+-- a value as it is laid out
+pub padded_most : (c v : ℕ) → length (padded c v) ≤ 28
+padded_most c v =
+    let fill = width c - length (decimal v) in
+    omega (arith, length-append (replicate fill 32) (decimal v), length-replicate {A = ℕ} fill 32, width_most c, decimal_few v)
 
 -- a cell has at most 38 bytes
 pub cell_most : (c v : ℕ) → length (cell_text c v) ≤ 38
@@ -108,7 +114,7 @@ text_most s n from m few fewer =
 -- ---- the line of a fault
 
 -- what stands around a word at fault
-expected_most : (n : ℕ) → length (expected n) ≤ 28
+pub expected_most : (n : ℕ) → length (expected n) ≤ 28
 unfolding expected
 expected_most n =
     chosen (λ (x : List ℕ). length x ≤ 28) (eqb n 1) (omega arith)
@@ -116,10 +122,10 @@ expected_most n =
     (chosen (λ (x : List ℕ). length x ≤ 28) (eqb n 3) (omega arith)
     (chosen (λ (x : List ℕ). length x ≤ 28) (eqb n 6) (omega arith) (omega arith))))
 
-between_most : (n : ℕ) → length (between n) ≤ 8
+pub between_most : (n : ℕ) → length (between n) ≤ 8
 between_most n = chosen (λ (x : List ℕ). length x ≤ 8) (eqb n 4 || eqb n 5) {x = text " "} {y = text ", found "} (omega arith) (omega arith)
 
-limit_most : (n c : ℕ) → length (limit n c) ≤ 30
+pub limit_most : (n c : ℕ) → length (limit n c) ≤ 30
 unfolding limit
 limit_most n c =
     chosen (λ (x : List ℕ). length x ≤ 30) (eqb n 4) (labelled_few (text " is below ") (least c))
@@ -143,7 +149,7 @@ word_most s f =
     )
 
 -- what stands around the values of a rule
-opening_most : (n : ℕ) → length (opening n) ≤ 21
+pub opening_most : (n : ℕ) → length (opening n) ≤ 21
 unfolding opening
 opening_most n =
     chosen (λ (x : List ℕ). length x ≤ 21) (eqb n 7) (omega arith)
@@ -154,7 +160,7 @@ opening_most n =
     (chosen (λ (x : List ℕ). length x ≤ 21) (eqb n 15) (omega arith)
     (chosen (λ (x : List ℕ). length x ≤ 21) (eqb n 16) (omega arith) (omega arith)))))))
 
-middle_most : (n : ℕ) → length (middle n) ≤ 48
+pub middle_most : (n : ℕ) → length (middle n) ≤ 48
 unfolding middle
 middle_most n =
     chosen (λ (x : List ℕ). length x ≤ 48) (eqb n 7) (omega arith)
@@ -167,7 +173,7 @@ middle_most n =
     (chosen (λ (x : List ℕ). length x ≤ 48) (eqb n 14) (omega arith)
     (chosen (λ (x : List ℕ). length x ≤ 48) (eqb n 15) (omega arith) (omega arith)))))))))
 
-closing_most : (n : ℕ) → length (closing n) ≤ 84
+pub closing_most : (n : ℕ) → length (closing n) ≤ 84
 unfolding closing
 closing_most n =
     chosen (λ (x : List ℕ). length x ≤ 84) (eqb n 12) (omega arith) (chosen (λ (x : List ℕ). length x ≤ 84) (eqb n 15) (omega arith) (omega arith))
@@ -188,12 +194,12 @@ reason_most f =
     )
 
 -- what is wrong with the whole
-whole_most : (n : ℕ) → length (whole_text n) ≤ 42
+pub whole_most : (n : ℕ) → length (whole_text n) ≤ 42
 unfolding whole_text
 whole_most n =
     chosen (λ (x : List ℕ). length x ≤ 42) (eqb n 17) (omega arith) (chosen (λ (x : List ℕ). length x ≤ 42) (eqb n 18) (omega arith) (omega arith))
 
-fault_most : (s : List ℕ) (f : Fault) → length (fault_text s f) ≤ 193
+pub fault_most : (s : List ℕ) (f : Fault) → length (fault_text s f) ≤ 193
 fault_most s f =
     chosen (λ (x : List ℕ). length x ≤ 193) (leb f.cause 6) {x = word_text s f} (omega (arith, word_most s f))
     (chosen (λ (x : List ℕ). length x ≤ 193) (leb f.cause 16) {x = reason_text f} {y = whole_text f.cause} (reason_most f) (omega (arith, whole_most f.cause)))

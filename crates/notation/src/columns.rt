@@ -1,6 +1,9 @@
 // The columns of a line: the name before a value, its range, its width and where it lies in a record.
 ghost use Rattle.std.specs.Prelude.{◌≡◌, ◌+◌, ◌≤◌, length};
+ghost use Rattle.words.specs.Pages.{room, Puts};
 ghost use Rattle.notation.specs.Columns.{column_number, name, least, most, width, wide, offset, field_at};
+
+use words::Page;
 
 // A column: the first seven are a task's, the others a use's.
 #[derive(Clone, Copy, PartialEq, Eq, Debug)]
@@ -37,6 +40,27 @@ impl Column {
             Column::Resource => b"resource",
             Column::Times => b"times",
             Column::Length => b"length",
+        }
+    }
+
+    // Puts the name: a text of its own for each, which is stored as it is, where one from a list would be copied byte by byte.
+    #[tactic(auto, using(words::proofs::Pages::pages), unfolding(crate::specs::Columns::name))]
+    pub(crate) fn put_name(self, page: &mut Page)
+        requires { 8 ≤ room page.old }
+        ensures { Puts page.old (name (column_number self)) page.new }
+    {
+        match self {
+            Column::Task => page.text(b"task"),
+            Column::Setting => page.text(b"setting"),
+            Column::Sleeps => page.text(b"sleeps"),
+            Column::Run => page.text(b"run"),
+            Column::Sleep => page.text(b"sleep"),
+            Column::Deadline => page.text(b"deadline"),
+            Column::Period => page.text(b"period"),
+            Column::Use => page.text(b"use"),
+            Column::Resource => page.text(b"resource"),
+            Column::Times => page.text(b"times"),
+            Column::Length => page.text(b"length"),
         }
     }
 

@@ -1,5 +1,5 @@
 // The line of a fault.
-ghost use Rattle.std.specs.Prelude.{◌≡◌, ◌≤◌, length};
+ghost use Rattle.std.specs.Prelude.{◌≡◌, ◌≤◌};
 ghost use Rattle.words.specs.Finding.{word_of};
 ghost use Rattle.words.specs.Pages.{room, Puts};
 ghost use Rattle.notation.specs.Causes.{cause_number};
@@ -99,12 +99,15 @@ impl Cause {
     }
 }
 
-// The name of a column, or none.
-#[tactic(auto, unfolding(crate::specs::Columns::name))]
-fn name_of(column: Option<Column>) -> &'static [u8]
-    ensures { result.now ≡ name (column_or_none column) }
+// Puts the name of a column, or of none.
+#[tactic(auto, using(words::proofs::Pages::pages), unfolding(crate::specs::Columns::name))]
+fn put_name(page: &mut Page, column: Option<Column>)
+    requires { 8 ≤ room page.old }
+    ensures { Puts page.old (name (column_or_none column)) page.new }
 {
-    column.map_or(b"", |column| column.name())
+    if let Some(column) = column {
+        column.put_name(page);
+    }
 }
 
 // The least value of a column, or of none.
@@ -134,9 +137,9 @@ fn word_at(text: &[u8], place: usize) -> &[u8]
 }
 
 // Puts the limit that a value passes.
-#[tactic(auto, using(words::proofs::Pages::pages), unfolding(crate::specs::Faults::limit))]
+#[tactic(auto, using(words::proofs::Pages::pages, words::proofs::Words::decimal_few), unfolding(crate::specs::Faults::limit))]
 fn put_limit(page: &mut Page, fault: Fault)
-    requires { length (limit (cause_number fault.cause) (column_or_none fault.column)) ≤ room page.old }
+    requires { 30 ≤ room page.old }
     ensures { Puts page.old (limit (cause_number fault.cause) (column_or_none fault.column)) page.new }
 {
     match fault.cause {
@@ -147,20 +150,22 @@ fn put_limit(page: &mut Page, fault: Fault)
 }
 
 // Puts a word at fault.
+#[tactic(auto, using(words::proofs::Pages::pages, words::proofs::Words::found_few, crate::proofs::Sizes::expected_most, crate::proofs::Sizes::name_most, crate::proofs::Sizes::between_most, crate::proofs::Sizes::limit_most))]
 fn put_word(page: &mut Page, text: &[u8], fault: Fault)
-    requires { length (word_text text.now (fault_of fault)) ≤ room page.old }
+    requires { 106 ≤ room page.old }
     ensures { Puts page.old (word_text text.now (fault_of fault)) page.new }
 {
     page.text(fault.cause.expected());
-    page.text(name_of(fault.column));
+    put_name(page, fault.column);
     page.text(fault.cause.between());
     page.found(word_at(text, fault.at));
     put_limit(page, fault);
 }
 
 // Puts a rule that is broken.
+#[tactic(auto, using(words::proofs::Pages::pages, words::proofs::Words::decimal_few, crate::proofs::Sizes::opening_most, crate::proofs::Sizes::middle_most, crate::proofs::Sizes::closing_most))]
 fn put_reason(page: &mut Page, fault: Fault)
-    requires { length (reason_text (fault_of fault)) ≤ room page.old }
+    requires { 193 ≤ room page.old }
     ensures { Puts page.old (reason_text (fault_of fault)) page.new }
 {
     page.number(fault.cause.opening(), u64::from(fault.value));
@@ -169,8 +174,9 @@ fn put_reason(page: &mut Page, fault: Fault)
 }
 
 // Puts what is at fault.
+#[tactic(auto, using(words::proofs::Pages::pages, crate::proofs::Sizes::whole_most))]
 fn put_cause(page: &mut Page, text: &[u8], fault: Fault)
-    requires { length (fault_text text.now (fault_of fault)) ≤ room page.old }
+    requires { 193 ≤ room page.old }
     ensures { Puts page.old (fault_text text.now (fault_of fault)) page.new }
 {
     match fault.cause {
@@ -186,8 +192,9 @@ fn put_cause(page: &mut Page, text: &[u8], fault: Fault)
 }
 
 // Puts the line of a fault.
+#[tactic(auto, using(words::proofs::Pages::pages, words::proofs::Words::decimal_few, crate::proofs::Sizes::fault_most))]
 pub fn put_fault(page: &mut Page, text: &[u8], fault: Fault)
-    requires { length (fault_line text.now (fault_of fault)) ≤ room page.old }
+    requires { 256 ≤ room page.old }
     ensures { Puts page.old (fault_line text.now (fault_of fault)) page.new }
 {
     page.number(b"line ", fault.line as u64);

@@ -1,5 +1,5 @@
 // The text of a table, in columns.
-ghost use Rattle.std.specs.Prelude.{◌≡◌, ◌*◌, ◌≤◌, length};
+ghost use Rattle.std.specs.Prelude.{◌*◌, ◌≤◌};
 ghost use Rattle.words.specs.Pages.{room, Puts};
 ghost use Rattle.notation.specs.Columns.{column_number};
 ghost use Rattle.notation.specs.Kinds.{first_column, column_count, record_size};
@@ -14,20 +14,21 @@ use words::Page;
 const SPACES: &[u8] = b"        ";
 
 impl Column {
-    // What stands after a value.
-    fn spacing(self) -> &'static [u8]
-        ensures { result.now ≡ spacing (column_number self) }
+    // Puts what stands after a value.
+    fn put_spacing(self, page: &mut Page)
+        requires { 2 ≤ room page.old }
+        ensures { Puts page.old (spacing (column_number self)) page.new }
     {
         match self {
-            Column::Period | Column::Length => b"\n",
-            _ => b"  ",
+            Column::Period | Column::Length => page.text(b"\n"),
+            _ => page.text(b"  "),
         }
     }
 }
 
 // Puts a value, right under right.
 fn put_padded(page: &mut Page, column: Column, value: u32)
-    requires { length (padded (column_number column) value) ≤ room page.old }
+    requires { 28 ≤ room page.old }
     ensures { Puts page.old (padded (column_number column) value) page.new }
 {
     let mut digits = [0; 20];
@@ -38,14 +39,14 @@ fn put_padded(page: &mut Page, column: Column, value: u32)
 }
 
 // Puts a column's name and value.
-#[tactic(auto, using(words::proofs::Pages::pages), unfolding(crate::specs::Showing::cell_text))]
+#[tactic(auto, using(words::proofs::Pages::pages, crate::proofs::Sizes::name_most, crate::proofs::Sizes::padded_most), unfolding(crate::specs::Showing::cell_text))]
 fn put_cell(page: &mut Page, column: Column, value: u32)
-    requires { length (cell_text (column_number column) value) ≤ room page.old }
+    requires { 38 ≤ room page.old }
     ensures { Puts page.old (cell_text (column_number column) value) page.new }
 {
-    page.text(column.name());
+    column.put_name(page);
     put_padded(page, column, value);
-    page.text(column.spacing());
+    column.put_spacing(page);
 }
 
 // Puts the line of the record of a kind that starts at a place.

@@ -10,6 +10,7 @@ use Rattle.words.specs.Text.{decimal}
 use Rattle.words.proofs.Texts.{decimal_spelled}
 use Rattle.notation.specs.Columns.{column_number}
 use Rattle.notation.specs.Showing.{padded}
+use Rattle.notation.proofs.Sizes.{padded_most}
 use Rattle.notation.proofs.Showings.{eight, padded_is, put_more, room_left}
 use Rattle.notation.proofs.showing.put_padded.Goals as goal
 use Rattle.notation.proofs.showing.put_padded.Goals.{After-saturating_sub-missing}
@@ -31,6 +32,7 @@ text-requires-2 c =
     omega (
       arith,
       c.requires,
+      padded_most (column_number c.args.column) c.args.value,
       ap length (spelled (goal.at.text-requires-2 c).After-saturating_sub-missing),
       length-append spaces digits,
       room_left (sheet c.args.page.now) (sheet c.text.new.self) spaces c.text.ensures,
