@@ -1,5 +1,6 @@
 mod Choosing
 pub mod Views
+pub mod Naming
 mod Rowing
 mod Froms
 mod Steps

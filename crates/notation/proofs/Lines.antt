@@ -22,7 +22,6 @@ use Rattle.notation.specs.Packing.{longest, Outcome, whole, Step, on, over, past
 use Rattle.notation.specs.Stepping.{Ready, Judgeable, Stepped, PackedTo, judged_of}
 use Rattle.notation.proofs.Steps.{whole_to}
 use Rattle.notation.proofs.Froms.{row_from, row_few}
-use Rattle.notation.proofs.Views.{cause_some}
 
 -- a list of no length is empty
 pub empty_list : (l : List ℕ) → length l ≡ 0 → l ≡ []
@@ -39,7 +38,7 @@ unfolding line_step
 line_fault s w b b₁ m f put is =
     let row = row_at s w.at in
     let read = put.read in
-    rw (ne_eqb row.cause 0 (λ e. omega (arith, cause_some m.cause, read.cause, e)))
+    rw (ne_eqb row.cause 0 (λ e. omega (arith, read.some, e)))
     (record {
       same = ap Faulty is ∙ (λ i. Faulty (record { line = w.line; cause = sym read.cause i; column = sym read.named i; at = sym read.at i; value = 0; other = 0 }));
       front = refl;

@@ -13,7 +13,7 @@ use Rattle.searches.proofs.Testing.{impossible}
 use Rattle.held.specs.Writing.{word_bytes}
 use Rattle.words.specs.Finding.{lead, in_class, run_end, word_start, word_of, same, is_number, value_of}
 use Rattle.words.specs.Writing.{Put}
-use Rattle.words.proofs.Puts.{put_none, put_then}
+use Rattle.words.proofs.Puts.{put_none, put_length, put_then}
 use Rattle.notation.specs.declared.causes.Cause.{Cause}
 use Rattle.notation.specs.declared.causes.Cause.TheVariants.{FirstWord}
 use Rattle.notation.specs.declared.columns.Column.{Column}
@@ -52,10 +52,11 @@ module _ {s : List ℕ} {at b e : ℕ} (f : Found s at b e) where
 -- ---- a cell
 
 -- a cell without a value is what is wrong with its word
-pub cell_misfit : {s : List ℕ} {cell : Cell} {m : Misfit} (cause : Cause) (column : Column) (b : ℕ) → no_cell (cause_number cause) b ≡ cell
+pub cell_misfit : {s : List ℕ} {cell : Cell} {m : Misfit} (cause : Cause) (column : Column) (b : ℕ) → 1 ≤ cause_number cause → no_cell (cause_number cause) b ≡ cell
     → m ≡ record { cause = cause; column = Some column; at = b } → b ≤ length s → CellRead s (column_number column) cell (Err m)
-cell_misfit cause column b e is l = record {
+cell_misfit cause column b some e is l = record {
   cause = ap (λ (x : Cell). x.cause) (sym e) ∙ ap (λ (x : Misfit). cause_number x.cause) (sym is);
+  some = omega (arith, ap (λ (x : Cell). x.cause) e);
   named = ap (λ (x : Misfit). column_or_none x.column) (sym is);
   at = ap (λ (x : Cell). x.at) (sym e) ∙ ap (λ (x : Misfit). x.at) (sym is);
   within = omega (arith, ap (λ (x : Misfit). x.at) is);
@@ -146,8 +147,26 @@ pub record Filled (s : List ℕ) (at first k : ℕ) (before : List ℕ) (n : ℕ
   pub few : i ≤ k
   pub most : end ≤ n + 4 * i
 
+-- before the first cell
+pub filled_none : (s : List ℕ) (at first k : ℕ) (o : List ℕ) (n : ℕ) → at ≤ length s → Filled s at first k o n o 0 at n
+filled_none s at first k o n l =
+    let all : k ≡ k - 0 = omega arith in
+    let here : first ≡ first + 0 = omega arith in
+    record {
+      bytes = [];
+      put = put_none o n;
+      rest = ap₂ (λ (j c : ℕ). cells_from j s at c) all here;
+      within = l;
+      few = omega arith;
+      most = omega arith;
+    }
+
 module _ {s : List ℕ} {at first k : ℕ} {before : List ℕ} {n : ℕ} {now : List ℕ} {i place end : ℕ}
     (f : Filled s at first k before n now i place end) (room : n + 4 * k ≤ length before) where
+  -- the buffer is as long as before
+  pub filled_sized : length now ≡ length before
+  filled_sized = put_length before n f.bytes now end (omega (arith, f.put.end, f.most, f.few)) f.put
+
   -- a cell more
   pub filled_more : (c : ℕ) → c ≡ first + i → (v : Value) (next : List ℕ) (r : ℕ) → i < k → CellRead s c (cell_at s place c) (Ok v)
       → Put now end (value_bytes c v.value) next r → r ≤ end + 4
@@ -205,7 +224,7 @@ module _ {s : List ℕ} {at first k : ℕ} {before : List ℕ} {n : ℕ} {now : 
         count = omega (arith, w.count, f.put.end, length-append f.bytes []);
         within = w.within;
       }
-      go (Err m) w = record { cause = w.cause; named = w.named; at = w.at; within = w.within }
+      go (Err m) w = record { cause = w.cause; some = w.some; named = w.named; at = w.at; within = w.within }
 
 -- ---- a whole line
 
@@ -229,7 +248,7 @@ kind_put s row cells o n kind now r e l t =
   where
     go : (q : Result Taken Misfit) → RowRead s cells (n + 1) q → RowRead s (after (kind ∷ []) cells) n q
     go (Ok taken) w = record { cause = w.cause; at = w.at; count = omega (arith, w.count); within = w.within }
-    go (Err m) w = record { cause = w.cause; named = w.named; at = w.at; within = w.within }
+    go (Err m) w = record { cause = w.cause; some = w.some; named = w.named; at = w.at; within = w.within }
 
 module _ {s : List ℕ} {at b e : ℕ} (f : Found s at b e) (o : List ℕ) (n : ℕ) where
   -- the line is what its first word says
@@ -278,4 +297,4 @@ module _ {s : List ℕ} {at b e : ℕ} (f : Found s at b e) (o : List ℕ) (n : 
       let w = take (e - b) (drop b s) in
       none_put s (row_at s at) o n 1 b (Err (record { cause = FirstWord; column = None; at = b }))
       (row_of ∙ simp (word_some f h) (none_row (same w (name 0)) (same w (name 7)) none))
-      (record { cause = refl; named = refl; at = refl; within = f.first })
+      (record { cause = refl; some = omega arith; named = refl; at = refl; within = f.first })

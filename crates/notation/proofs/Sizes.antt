@@ -44,7 +44,7 @@ width_most c =
     (chosen (λ (n : ℕ). n ≤ 7) (eqb c 0 || (eqb c 1 || eqb c 9)) (omega arith) (chosen (λ (n : ℕ). n ≤ 7) (eqb c 7) (omega arith) (omega arith)))
 
 -- what stands after a value
-pub spacing_most : (c : ℕ) → length (spacing c) ≤ 2
+spacing_most : (c : ℕ) → length (spacing c) ≤ 2
 spacing_most c = chosen (λ (x : List ℕ). length x ≤ 2) (eqb c 6 || eqb c 10) {x = newline} {y = text "  "} (omega arith) (omega arith)
 
 -- a value as it is laid out

@@ -1,14 +1,15 @@
 -- What is seen by numbers loses nothing: the code's cause, column, fault and answer are found again from their numbers.
-use Prim.Native.Nat.{ℕ, ◌+◌, ◌-◌, ◌≤◌, ◌<◌}
+use Prim.Native.Nat.{ℕ, ◌+◌, ◌≤◌, ◌<◌}
 use mathlib.Core.Path.{◌≡◌, refl, sym, ap, ap₂, ◌∙◌}
-use mathlib.Core.List.{List, [], ◌∷◌, map}
+use mathlib.Core.List.{List, map}
 use native.Mathlib.Omega.{arith}
 use lib.ListN.{length, get_or, length-map, get_or-map}
-use Rattle.std.proofs.Common.{Option, Some, None, Result, Ok, Err}
+use Rattle.std.proofs.Common.{◌≢◌, Option, Some, None, Result, Ok, Err}
 use Rattle.std.specs.List.{range_with_len}
 use Rattle.std.proofs.lemmas.List.FromFn.{length-range_with_len, get_or-range_with_len}
 use Rattle.notation.specs.declared.causes.Cause.{Cause}
 use Rattle.notation.specs.declared.causes.Cause.TheVariants.{
+  Unknown,
   FirstWord,
   OtherName,
   NoNumber,
@@ -32,25 +33,15 @@ use Rattle.notation.specs.declared.causes.Cause.TheVariants.{
 use Rattle.notation.specs.declared.columns.Column.{Column}
 use Rattle.notation.specs.declared.columns.Column.TheVariants.{Task, Setting, Sleeps, Run, Sleep, Deadline, Period, Use, Resource, Times, Length}
 use Rattle.notation.specs.declared.Fault.{Fault as NamedFault}
-use Rattle.notation.specs.Causes.{cause_number}
-use Rattle.notation.specs.Columns.{column_number, column_or_none}
-use Rattle.notation.specs.Numbered.{Fault, Packing, Packed, Faulty, fault_of, packing_of}
+use Rattle.notation.specs.Causes.{cause_number, cause_of}
+use Rattle.notation.specs.Columns.{column_number, column_or_none, column_of}
+use Rattle.notation.specs.Numbered.{Packing, Packed, Faulty, fault_of, named, packing_of}
 
 -- ---- causes
 
--- the causes in the order of their numbers
-abbrev causes : List Cause
-causes =
-    FirstWord ∷ OtherName ∷ NoNumber ∷ BelowRange ∷ AboveRange ∷ MoreWords
-    ∷ SettingHigh ∷ Sleepless ∷ RunHigh ∷ DeadlineHigh ∷ OneTooMany ∷ AfterUse ∷ NotBelow ∷ OfNoTask ∷ OutOfOrder ∷ PastRun
-    ∷ NoTask ∷ TooLong ∷ NoRoom ∷ []
-
--- the cause that has a number
-abbrev pub cause_of : ℕ → Cause
-cause_of n = get_or causes (n - 1) FirstWord
-
 -- each cause is found again
 pub cause_again : (c : Cause) → cause_of (cause_number c) ≡ c
+cause_again Unknown = refl
 cause_again FirstWord = refl
 cause_again OtherName = refl
 cause_again NoNumber = refl
@@ -71,37 +62,30 @@ cause_again NoTask = refl
 cause_again TooLong = refl
 cause_again NoRoom = refl
 
--- no cause has the number 0
-pub cause_some : (c : Cause) → 1 ≤ cause_number c
-cause_some FirstWord = omega arith
-cause_some OtherName = omega arith
-cause_some NoNumber = omega arith
-cause_some BelowRange = omega arith
-cause_some AboveRange = omega arith
-cause_some MoreWords = omega arith
-cause_some SettingHigh = omega arith
-cause_some Sleepless = omega arith
-cause_some RunHigh = omega arith
-cause_some DeadlineHigh = omega arith
-cause_some OneTooMany = omega arith
-cause_some AfterUse = omega arith
-cause_some NotBelow = omega arith
-cause_some OfNoTask = omega arith
-cause_some OutOfOrder = omega arith
-cause_some PastRun = omega arith
-cause_some NoTask = omega arith
-cause_some TooLong = omega arith
-cause_some NoRoom = omega arith
+-- no cause but the unknown one has the number 0
+pub cause_some : (c : Cause) → c ≢ Unknown → 1 ≤ cause_number c
+cause_some Unknown other = absurd (other refl)
+cause_some FirstWord other = omega arith
+cause_some OtherName other = omega arith
+cause_some NoNumber other = omega arith
+cause_some BelowRange other = omega arith
+cause_some AboveRange other = omega arith
+cause_some MoreWords other = omega arith
+cause_some SettingHigh other = omega arith
+cause_some Sleepless other = omega arith
+cause_some RunHigh other = omega arith
+cause_some DeadlineHigh other = omega arith
+cause_some OneTooMany other = omega arith
+cause_some AfterUse other = omega arith
+cause_some NotBelow other = omega arith
+cause_some OfNoTask other = omega arith
+cause_some OutOfOrder other = omega arith
+cause_some PastRun other = omega arith
+cause_some NoTask other = omega arith
+cause_some TooLong other = omega arith
+cause_some NoRoom other = omega arith
 
 -- ---- columns
-
--- the columns in the order of their numbers
-abbrev columns : List Column
-columns = Task ∷ Setting ∷ Sleeps ∷ Run ∷ Sleep ∷ Deadline ∷ Period ∷ Use ∷ Resource ∷ Times ∷ Length ∷ []
-
--- the column that has a number, if one has
-abbrev pub column_of : ℕ → Option Column
-column_of n = get_or (map Some columns) n None
 
 -- each column, and none, is found again
 pub column_again : (c : Option Column) → column_of (column_or_none c) ≡ c
@@ -130,17 +114,6 @@ number_there some first k i d e h =
     sym (get_or-map column_number some i d) ∙ ap (λ (l : List ℕ). get_or l i (column_number d)) e ∙ get_or-range_with_len first k i (column_number d) n
 
 -- ---- faults and answers
-
--- the code's fault that has these numbers
-unfoldable pub named : Fault → NamedFault
-named f = record {
-  line = f.line;
-  cause = cause_of f.cause;
-  column = column_of f.column;
-  at = f.at;
-  value = f.value;
-  other = f.other;
-}
 
 -- each fault is found again
 pub fault_again : (f : NamedFault) → named (fault_of f) ≡ f

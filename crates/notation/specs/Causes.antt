@@ -1,7 +1,8 @@
 -- The causes of a fault by their numbers in docs/NOTATION.md.
-use Rattle.std.specs.Prelude.{ℕ}
+use Rattle.std.specs.Prelude.{ℕ, List, [], ◌∷◌, get_or}
 use Rattle.notation.specs.declared.causes.Cause.{Cause}
 use Rattle.notation.specs.declared.causes.Cause.TheVariants.{
+  Unknown,
   FirstWord,
   OtherName,
   NoNumber,
@@ -23,8 +24,9 @@ use Rattle.notation.specs.declared.causes.Cause.TheVariants.{
   NoRoom,
 }
 
--- a cause's number: 1 to 6 a word of a line, 7 to 16 a rule on records, 17 to 19 the whole
+-- a cause's number: 1 to 6 a word of a line, 7 to 16 a rule on records, 17 to 19 the whole; 0 none of these
 abbrev pub cause_number : Cause → ℕ
+cause_number Unknown = 0
 cause_number FirstWord = 1
 cause_number OtherName = 2
 cause_number NoNumber = 3
@@ -44,3 +46,14 @@ cause_number PastRun = 16
 cause_number NoTask = 17
 cause_number TooLong = 18
 cause_number NoRoom = 19
+
+-- the causes in the order of their numbers
+abbrev pub causes : List Cause
+causes =
+    Unknown ∷ FirstWord ∷ OtherName ∷ NoNumber ∷ BelowRange ∷ AboveRange ∷ MoreWords
+    ∷ SettingHigh ∷ Sleepless ∷ RunHigh ∷ DeadlineHigh ∷ OneTooMany ∷ AfterUse ∷ NotBelow ∷ OfNoTask ∷ OutOfOrder ∷ PastRun
+    ∷ NoTask ∷ TooLong ∷ NoRoom ∷ []
+
+-- the cause that has a number; from 20 on it is the last
+abbrev pub cause_of : ℕ → Cause
+cause_of n = get_or causes n NoRoom

@@ -1,5 +1,5 @@
 -- The columns of a line, by number: 0 to 6 a task's, 7 to 10 a use's, 11 none.
-use Rattle.std.specs.Prelude.{ℕ, ◌+◌, ◌*◌, ◌-◌, ◌%◌, Bool, cond, ◌&&◌, ◌||◌, List, [], ◌∷◌, ltb, leb, eqb, get_or, Option, Some, None}
+use Rattle.std.specs.Prelude.{ℕ, ◌+◌, ◌*◌, ◌-◌, ◌%◌, Bool, cond, ◌&&◌, ◌||◌, List, [], ◌∷◌, ltb, leb, eqb, get_or, map, Option, Some, None}
 use Rattle.notation.specs.declared.columns.Column.{Column}
 use Rattle.notation.specs.declared.columns.Column.TheVariants.{Task, Setting, Sleeps, Run, Sleep, Deadline, Period, Use, Resource, Times, Length}
 use Rattle.table.specs.Fields.{word_at}
@@ -24,6 +24,14 @@ column_number Length = 10
 abbrev pub column_or_none : Option Column → ℕ
 column_or_none (Some c) = column_number c
 column_or_none None = 11
+
+-- the columns in the order of their numbers
+abbrev pub columns : List Column
+columns = Task ∷ Setting ∷ Sleeps ∷ Run ∷ Sleep ∷ Deadline ∷ Period ∷ Use ∷ Resource ∷ Times ∷ Length ∷ []
+
+-- the column that has a number, if one has
+abbrev pub column_of : ℕ → Option Column
+column_of n = get_or (map Some columns) n None
 
 -- the name that stands before the value
 unfoldable pub name : ℕ → List ℕ

@@ -16,9 +16,10 @@ pub record Found (s : List ℕ) (at b e : ℕ) : Type 0 where
   pub first : b ≤ length s
   pub last : e ≤ length s
 
--- what is wrong is what is meant: its cause, its column and its place, which is within the text
+-- what is wrong is what is meant: its cause, which is some, its column and its place, which is within the text
 pub record Misfits (s : List ℕ) (number column place : ℕ) (m : Misfit) : Type 0 where
   pub cause : number ≡ cause_number m.cause
+  pub some : 1 ≤ number
   pub named : column ≡ column_or_none m.column
   pub at : place ≡ m.at
   pub within : m.at ≤ length s

@@ -1,7 +1,7 @@
 // The columns of a line: the name before a value, its range, its width and where it lies in a record.
 ghost use Rattle.std.specs.Prelude.{◌≡◌, ◌+◌, ◌≤◌, length};
 ghost use Rattle.words.specs.Pages.{room, Puts};
-ghost use Rattle.notation.specs.Columns.{column_number, name, least, most, width, wide, offset, field_at};
+ghost use Rattle.notation.specs.Columns.{column_number, column_of, name, least, most, width, wide, offset, field_at};
 
 use words::Page;
 
@@ -22,6 +22,26 @@ pub enum Column {
 }
 
 impl Column {
+    // The column of a number; from 11 on there is none.
+    pub fn of(number: u8) -> Option<Column>
+        ensures { result ≡ column_of number }
+    {
+        match number {
+            0 => Some(Column::Task),
+            1 => Some(Column::Setting),
+            2 => Some(Column::Sleeps),
+            3 => Some(Column::Run),
+            4 => Some(Column::Sleep),
+            5 => Some(Column::Deadline),
+            6 => Some(Column::Period),
+            7 => Some(Column::Use),
+            8 => Some(Column::Resource),
+            9 => Some(Column::Times),
+            10 => Some(Column::Length),
+            _ => None,
+        }
+    }
+
     // The name that stands before the value.
     #[tactic(auto, unfolding(crate::specs::Columns::name))]
     pub fn name(self) -> &'static [u8]

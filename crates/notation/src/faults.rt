@@ -185,14 +185,15 @@ fn put_cause(page: &mut Page, text: &[u8], fault: Fault)
         | Cause::NoNumber
         | Cause::BelowRange
         | Cause::AboveRange
-        | Cause::MoreWords => put_word(page, text, fault),
+        | Cause::MoreWords
+        | Cause::Unknown => put_word(page, text, fault),
         Cause::NoTask | Cause::TooLong | Cause::NoRoom => page.text(fault.cause.whole()),
         _ => put_reason(page, fault),
     }
 }
 
 // Puts the line of a fault.
-#[tactic(auto, using(words::proofs::Pages::pages, words::proofs::Words::decimal_few, crate::proofs::Sizes::fault_most))]
+#[tactic(auto, using(words::proofs::Pages::pages, words::proofs::Words::decimal_few))]
 pub fn put_fault(page: &mut Page, text: &[u8], fault: Fault)
     requires { 256 ≤ room page.old }
     ensures { Puts page.old (fault_line text.now (fault_of fault)) page.new }

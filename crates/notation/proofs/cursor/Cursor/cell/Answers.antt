@@ -1,6 +1,7 @@
 -- What is left of `notation::cursor::Cursor::cell`.
 use Prim.Native.Nat.{◌-◌}
 use mathlib.Core.Path.{◌≡◌, sym, ap, subst, ◌∙◌}
+use native.Mathlib.Omega.{arith}
 use lib.ListN.{take, drop}
 use Rattle.words.specs.Finding.{same}
 use Rattle.notation.specs.declared.causes.Cause.TheVariants.{OtherName}
@@ -20,7 +21,7 @@ pub returns-then-not-same : goal.returns-then-not-same
 returns-then-not-same c =
     let word = c.next_word-start.ensures in
     let other = sym (tested (goal.at.returns-then-not-same c).After-same) ∙ c.if-not-same.true in
-    cell_misfit OtherName c.args.column _ (cell_other word (column_number c.args.column) other) c.of.ensures word.first
+    cell_misfit OtherName c.args.column _ (omega arith) (cell_other word (column_number c.args.column) other) c.of.ensures word.first
 
 pub returns : goal.returns
 returns c =

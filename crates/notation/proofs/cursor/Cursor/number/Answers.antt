@@ -10,7 +10,7 @@ pub returns-then-not-is_number : goal.returns-then-not-is_number
 returns-then-not-is_number c =
     let none = sym c.is_number.ensures ∙ c.if-not-is_number.true in
     let word = c.next_word-start.ensures in
-    cell_misfit NoNumber c.args.column _ (number_none word (column_number c.args.column) none) c.of.ensures word.first
+    cell_misfit NoNumber c.args.column _ (omega arith) (number_none word (column_number c.args.column) none) c.of.ensures word.first
 
 pub returns-then-value-least : goal.returns-then-value-least
 returns-then-value-least c =
@@ -18,7 +18,7 @@ returns-then-value-least c =
     let some = sym c.is_number.ensures ∙ c.if-not-is_number.false in
     let word = c.next_word-start.ensures in
     let column = column_number c.args.column in
-    cell_misfit BelowRange c.args.column _
+    cell_misfit BelowRange c.args.column _ (omega arith)
     (number_low word column value.result some value.ensures (omega (arith, c.least.ensures, c.if-value-least.true))) c.of-then-value-least.ensures word.first
 
 pub returns-then-most-value : goal.returns-then-most-value
@@ -27,7 +27,7 @@ returns-then-most-value c =
     let some = sym c.is_number.ensures ∙ c.if-not-is_number.false in
     let word = c.next_word-start.ensures in
     let column = column_number c.args.column in
-    cell_misfit AboveRange c.args.column _
+    cell_misfit AboveRange c.args.column _ (omega arith)
     (number_high word column value.result some value.ensures
     (omega (arith, c.least.ensures, c.if-value-least.false)) (omega (arith, c.most.ensures, c.if-most-value.true))) c.of-then-most-value.ensures word.first
 

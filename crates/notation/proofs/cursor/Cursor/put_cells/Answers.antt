@@ -2,7 +2,7 @@
 use native.Mathlib.Omega.{arith}
 use Rattle.std.proofs.lemmas.Result.{err_from_is_err_and}
 use Rattle.notation.specs.Kinds.{first_column, column_count}
-use Rattle.notation.proofs.Views.{cause_some, columns_many, number_there}
+use Rattle.notation.proofs.Views.{columns_many, number_there}
 use Rattle.notation.proofs.Rowing.{filled_more, filled_fault, filled_end}
 use Rattle.notation.proofs.cursor.Cursor.put_cells.Goals as goal
 
@@ -14,7 +14,7 @@ returns-in_err-cell c =
     let there = number_there _ first (column_count c.args.kind) c.loop-column.column-index _ c.columns-column-items.ensures c.loop-column-test.true in
     let m = c.in_err-cell.field-0.0 in
     let wrong = c.in_err-cell.ensures in
-    rw (p.1, p.2) (filled_fault c.loop-column.invariant c.requires _ there m (omega (arith, many, c.loop-column-test.true)) (λ z. omega (arith, cause_some m.cause, wrong.cause)) wrong)
+    rw (p.1, p.2) (filled_fault c.loop-column.invariant c.requires _ there m (omega (arith, many, c.loop-column-test.true)) (λ z. omega (arith, wrong.some)) wrong)
 
 pub loop-column-preserved : goal.loop-column-preserved
 loop-column-preserved c =
