@@ -24,8 +24,8 @@ use Rattle.words.specs.Writing.{Put}
 use Rattle.notation.specs.declared.Fault.{Fault}
 use Rattle.notation.specs.declared.causes.Cause.{Cause}
 use Rattle.notation.specs.declared.columns.Column.{Column}
-use Rattle.notation.specs.Causes.{cause_number}
-use Rattle.notation.specs.Columns.{column_number, name}
+use Rattle.notation.specs.Causes.{cause_number, cause_of}
+use Rattle.notation.specs.Columns.{column_number, column_of, name}
 use Rattle.notation.specs.Numbered.{packing_of}
 use Rattle.notation.specs.Packing.{pack_into}
 use Rattle.notation.proofs.Views.{packing_one}
@@ -95,10 +95,12 @@ pub record OneReply : Type 0 where
   pub calls : (s : Scheduler) (c : Call) → One (replied s c)
   pub denial_numbers : (d : Denial) → One (denial_number d)
   pub refusal_numbers : (r : Option Denial) → One (refusal_number r)
-  -- notation::pack, and the buffer that it is lent; Cause::number and Column::name
+  -- notation::pack, and the buffer that it is lent; Cause::number and of, Column::name and of
   pub packs : (room : ℕ) (t : List ℕ) (r q : Result ℕ Fault) → packing_of r ≡ (pack_into room t).packing → packing_of q ≡ (pack_into room t).packing → r ≡ q
   pub cause_numbers : (c : Cause) → One (cause_number c)
+  pub causes_of : (n : ℕ) → One (cause_of n)
   pub column_names : (c : Column) → One (name (column_number c))
+  pub columns_of : (n : ℕ) → One (column_of n)
   pub packs_to : (t out : List ℕ) → One ((pack_into (length out) t).bytes ++ drop (length (pack_into (length out) t).bytes) out)
   -- lines::bounds_lines, notation::show, notation::fault_line, notation::pack_reply: each puts one text at the front of a buffer, and of any text
   -- that is put there the place after it and the whole buffer are fixed
@@ -140,7 +142,9 @@ one_reply = record {
   refusal_numbers = λ r. one (refusal_number r);
   packs = λ room t r q e f. packing_one r q (e ∙ sym f);
   cause_numbers = λ c. one (cause_number c);
+  causes_of = λ n. one (cause_of n);
   column_names = λ c. one (name (column_number c));
+  columns_of = λ n. one (column_of n);
   packs_to = λ t out. one ((pack_into (length out) t).bytes ++ drop (length (pack_into (length out) t).bytes) out);
   prints = λ t out o₁ o₂ r₁ r₂ p q. (p.end ∙ sym q.end, p.holds ∙ sym q.holds);
 }
