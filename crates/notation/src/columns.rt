@@ -63,7 +63,7 @@ impl Column {
         }
     }
 
-    // Puts the name: a text of its own for each, which is stored as it is, where one from a list would be copied byte by byte.
+    // Puts the name. Each is a text of its own here, whose length the compiler knows: to put what `name` answers takes a call that copies it.
     #[tactic(auto, using(words::proofs::Pages::pages), unfolding(crate::specs::Columns::name))]
     pub(crate) fn put_name(self, page: &mut Page)
         requires { 8 ≤ room page.old }
