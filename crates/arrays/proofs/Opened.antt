@@ -1,5 +1,5 @@
--- The open sections by their arrays: how many, whether each is named, and the ceiling of the last.
-use Rattle.std.proofs.Common.{◌≡◌, ℕ, zero, suc, Bool, true, false, ◌&&◌, ltb, leb, List, [], ◌∷◌, ◌++◌, length, get_or, sym, Option, None, Some, refl, ap, ◌∙◌, arith, length-append}
+-- The open sections by their arrays: how many, whether each is named, the ceiling of the last, and one removed that isn't there.
+use Rattle.std.proofs.Common.{◌≡◌, ℕ, zero, suc, ◌≤◌, Bool, true, false, ◌&&◌, ltb, leb, List, [], ◌∷◌, ◌++◌, length, get_or, sym, Option, None, Some, refl, ap, ◌∙◌, arith, length-append}
 use mathlib.Core.Bool.{and-true, and_assoc}
 use Rattle.protocol.specs.Tasks.{Table}
 use Rattle.searches.specs.Searches.{all}
@@ -11,6 +11,7 @@ use Rattle.protocol.proofs.Chain.{top_snoc}
 use Rattle.arrays.specs.declared.tasks.Tasks.{Tasks}
 use Rattle.arrays.specs.declared.sections.Sections.{Sections}
 use Rattle.arrays.specs.View.{tasks_of, sections_by, sections_of, last_open, setting_below}
+use Rattle.arrays.specs.Stores.{Removed}
 
 -- as many as are counted
 pub sections_length : (places resources : List ℕ) (n : ℕ) → length (sections_by places resources n) ≡ n
@@ -67,3 +68,15 @@ unfolding top sections_by
 last_ceiling T places resources zero = refl
 last_ceiling T places resources (suc n) =
     sym (top_snoc T 0 (sections_by places resources n) (section (get_or places n 0) (get_or resources n 0)))
+
+-- ---- removing
+
+-- a slot past them changes nothing
+pub removed_none : (a : List ℕ) (k n : ℕ) → n ≤ k → Removed a k n a
+removed_none a k n h = record {
+  long = refl;
+  before = λ j g. refl;
+  after = λ j g f. absurd (omega arith);
+  last = λ j g e. absurd (omega arith);
+  past = λ j g. refl;
+}

@@ -1,6 +1,6 @@
 // The open sections, in order of opening.
-ghost use Rattle.std.specs.Prelude.{◌≡◌, ◌-◌, ◌<◌, ◌≤◌, ◌&&◌, IfSome, nat_le};
-ghost use Rattle.searches.specs.Searches.{first};
+ghost use Rattle.std.specs.Prelude.{◌≡◌, ◌-◌, ◌<◌, ◌≤◌, ◌&&◌, IfSome, nat_le, nat_lt};
+ghost use Rattle.searches.specs.Searches.{first, only};
 ghost use Rattle.protocol.specs.Fit.{named};
 ghost use Rattle.arrays.specs.View.{tasks_of, sections_of, no_sections, last_open, is_section};
 ghost use Rattle.arrays.specs.Places.{place_of};
@@ -51,14 +51,16 @@ impl Sections {
         None
     }
 
-    // The section in a slot is closed: the later ones move down by one, and the last slot is 0.
+    // The section in a slot is closed: the later ones move down by one, and the last slot is 0. A slot past the sections changes nothing.
     pub fn remove(&mut self, slot: usize)
-        requires inside { slot < self.old.count }
-        requires few { self.old.count ≤ 16 }
-        ensures count { self.new.count ≡ self.old.count - 1 }
+        requires { self.old.count ≤ 16 }
+        ensures count { self.new.count ≡ self.old.count - only (nat_lt slot self.old.count) 1 }
         ensures places { Removed self.old.places slot self.old.count self.new.places }
         ensures resources { Removed self.old.resources slot self.old.count self.new.resources }
     {
+        if self.count <= slot {
+            return;
+        }
         self.places.copy_within(slot + 1..self.count, slot);
         self.resources.copy_within(slot + 1..self.count, slot);
         self.count -= 1;
