@@ -40,11 +40,8 @@ impl Scheduler {
         ensures { Ruled self.now (ruling_on self.now (Call.release priority)) result }
     {
         self.fitness()?;
-        let place = self
-            .tasks
-            .place_of_priority(priority)
-            .ok_or(Denial::NoTask)?;
-        self.entries.release_rule(place)
+        self.entries
+            .release_rule(self.tasks.place_of_priority(priority))
     }
 
     // A resume finds the job that sleeps under its number.
@@ -64,7 +61,7 @@ impl Scheduler {
     {
         let place = self.caller(job)?;
         self.entries
-            .lock_rule(&self.tasks, self.sections.count, place, resource)
+            .lock_rule(&self.tasks, self.sections.count, Some(place), resource)
     }
 
     // an unlock,
@@ -72,7 +69,7 @@ impl Scheduler {
         ensures { Ruled self.now (ruling_on self.now (Call.unlock job.priority job.serial resource)) result }
     {
         let place = self.caller(job)?;
-        self.entries.unlock_rule(place, resource)
+        self.entries.unlock_rule(Some(place), resource)
     }
 
     // a suspend,
@@ -81,7 +78,7 @@ impl Scheduler {
         ensures room { IfOk result (λ i. slice_index self.now.entries.sleeps i < 255) }
     {
         let place = self.caller(job)?;
-        self.entries.suspend_rule(&self.tasks, place)
+        self.entries.suspend_rule(&self.tasks, Some(place))
     }
 
     // and a complete.
@@ -89,6 +86,6 @@ impl Scheduler {
         ensures { Ruled self.now (ruling_on self.now (Call.complete job.priority job.serial)) result }
     {
         let place = self.caller(job)?;
-        self.entries.complete_rule(place)
+        self.entries.complete_rule(Some(place))
     }
 }
