@@ -27,6 +27,10 @@ started_setting T f i = only ((f i).started && not (is_none (f i).status)) (sett
 abbrev pub leads : Table → (ℕ → Entry) → ℕ → ℕ → ℕ → Bool
 leads T f y h i = eligible_under T f y i && eqb (priority T i) h
 
+-- the number in a list
+abbrev pub number_in : List ℕ → ℕ → ℕ
+number_in l i = get_or l i 0
+
 -- ---- who runs
 
 -- the running job is the first of the eligible ones that has the highest priority of them
@@ -41,20 +45,20 @@ running_found T f system highest e h =
 -- The place o is the first one of the number x in a list, if it has one.
 abbrev pub FirstOf : List ℕ → ℕ → Option ℕ → Type 0
 FirstOf l x o =
-    MatchOption o ((k : ℕ) → k < length l → get_or l k 0 ≢ x)
-    (λ i. (i < length l) × (get_or l i 0 ≡ x) × ((k : ℕ) → k < i → get_or l k 0 ≢ x))
+    MatchOption o ((k : ℕ) → k < length l → number_in l k ≢ x)
+    (λ i. (i < length l) × (number_in l i ≡ x) × ((k : ℕ) → k < i → number_in l k ≢ x))
 
 -- among the first n it is the first that passes the test
-pub found_first : (l : List ℕ) (x n : ℕ) (o : Option ℕ) → n ≤ length l → FirstOf (take n l) x o → place_of o ≡ first (λ k. eqb (get_or l k 0) x) n
+pub found_first : (l : List ℕ) (x n : ℕ) (o : Option ℕ) → n ≤ length l → FirstOf (take n l) x o → place_of o ≡ first (λ k. eqb (number_in l k) x) n
 found_first l x n o le h = go o h
   where
     long : length (take n l) ≡ n
     long = length-take-le n l le
 
-    kept : (k : ℕ) → k < n → get_or (take n l) k 0 ≡ get_or l k 0
+    kept : (k : ℕ) → k < n → number_in (take n l) k ≡ number_in l k
     kept k lt = get_or-take n l k 0 lt
 
-    go : (o : Option ℕ) → FirstOf (take n l) x o → place_of o ≡ first (λ k. eqb (get_or l k 0) x) n
+    go : (o : Option ℕ) → FirstOf (take n l) x o → place_of o ≡ first (λ k. eqb (number_in l k) x) n
     go None h = sym (first_none _ n (λ k lt e. h k (omega (arith, long)) (kept k lt ∙ eqb-true _ _ e)))
     go (Some i) h =
         let lt : i < n = omega (arith, long, h.0) in

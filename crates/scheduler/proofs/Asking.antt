@@ -34,22 +34,22 @@ pub record Grants (s : Scheduler) (c : Call) (i : ℕ) : Type 0 where
   pub grants : grant i ≡ ruling_on s c
   pub passed : Granted in_force (table_of s) (state_of s) c i
 
--- so is one whose checks the code has found to grant it
-pub grants : {s : Scheduler} {c : Call} {i : ℕ} → Sized s → Ruled s (ruling_on s c) (Ok i) → Grants s c i
-grants {s} {c} {i} Z R =
+-- so is one whose checks grant it to a place in the arrays
+pub grants : {s : Scheduler} {c : Call} {i : ℕ} → Sized s → i < 32 → grant i ≡ ruling_on s c → Grants s c i
+grants {s} {c} {i} Z lt e =
     let T = table_of s in
     record {
       sized = Z;
-      fits = fit_known s (fits (fit T (state_of s)) R.same);
-      place = omega (arith, R.granted);
-      grants = R.same;
-      passed = granted in_force T (state_of s) c i (sym R.same);
+      fits = fit_known s (fits (fit T (state_of s)) e);
+      place = lt;
+      grants = e;
+      passed = granted in_force T (state_of s) c i (sym e);
     }
   where
     fits : (b : Bool) → grant i ≡ demand 26 b (checks in_force (table_of s) (state_of s) c) → b ≡ true
     fits true e = refl
     fits false e = absurd (impossible cc)
 
--- so is one by the index of the place that it is granted to
+-- so is one whose checks the code has found to grant it, by the index of the place
 pub grants_index : {s : Scheduler} {c : Call} {i k : ℕ} → k ≡ i → Sized s → Ruled s (ruling_on s c) (Ok i) → Grants s c k
-grants_index e Z R = rw e (grants Z R)
+grants_index e Z R = rw e (grants Z (omega (arith, R.granted)) R.same)

@@ -1,5 +1,5 @@
 -- What a granted unlock does to the arrays is the machine's: the entry freed, the section closed, and the waiting jobs above the new ceiling woken.
-use Rattle.std.proofs.Common.{◌≡◌, ℕ, zero, suc, ◌-◌, ◌<◌, Bool, true, false, ◌&&◌, cond, eqb, ltb, List, get_or, set, refl, sym, ap, ◌∙◌, arith, get_or-set_same, get_or-set_other, lt-ltb, le-ltb, ne_eqb}
+use Rattle.std.proofs.Common.{◌≡◌, ℕ, zero, suc, ◌-◌, ◌<◌, Bool, true, false, ◌&&◌, cond, ltb, List, get_or, set, refl, sym, ap, ◌∙◌, arith, get_or-set_same, get_or-set_other, lt-ltb, le-ltb}
 use mathlib.Core.Path.{fun_ext}
 use native.Mathlib.Decide.{dec_lt}
 use Rattle.searches.specs.Searches.{at, first}
@@ -10,9 +10,11 @@ use Rattle.protocol.specs.Acting.{section, has, pick, become, freed, without, wo
 use Rattle.arrays.specs.declared.sections.Sections.{Sections}
 use Rattle.arrays.specs.View.{status_of, sections_by, sections_of, is_section}
 use Rattle.arrays.specs.Stores.{Removed, Woken}
+use Rattle.arrays.proofs.Numbers.{waiting_number}
 use Rattle.scheduler.specs.declared.Scheduler.{Scheduler}
 use Rattle.scheduler.specs.View.{table_of, entry_of, state_of}
 use Rattle.scheduler.specs.Beside.{Beside}
+use Rattle.scheduler.specs.Replies.{number_for}
 use Rattle.scheduler.proofs.Storing.{stored}
 use Rattle.scheduler.proofs.Ends.{Done}
 use Rattle.scheduler.proofs.Asking.{Grants}
@@ -20,18 +22,19 @@ use Rattle.scheduler.proofs.Removing.{is_there, section_removed}
 
 -- ---- waking
 
--- 2 is waiting
-waiting_number : (x : ℕ) → eqb x 2 ≡ is_waiting (status_of x)
-waiting_number zero = refl
-waiting_number (suc zero) = refl
-waiting_number (suc (suc zero)) = refl
-waiting_number (suc (suc (suc zero))) = refl
-waiting_number (suc (suc (suc (suc n)))) = ne_eqb (suc (suc (suc (suc n)))) 2 (λ e. omega arith)
-
 -- a woken job's number says ready, and any other stays
 woken_status : (e : Entry) (n : ℕ) (d : Bool) → status_of n ≡ e.status → become (status_of (cond d 1 n)) e ≡ pick d (become ready e) e
 woken_status e n true q = refl
 woken_status e n false q = ap (λ x. become x e) q
+
+-- and is right beside the number before
+pub woken_number_lem : (n : ℕ) (d : Bool) → cond (is_waiting (status_of n) && d) 1 n ≡ number_for n (status_of (cond (is_waiting (status_of n) && d) 1 n))
+woken_number_lem zero d = refl
+woken_number_lem (suc zero) d = refl
+woken_number_lem (suc (suc zero)) true = refl
+woken_number_lem (suc (suc zero)) false = refl
+woken_number_lem (suc (suc (suc zero))) d = refl
+woken_number_lem (suc (suc (suc (suc n)))) d = refl
 
 module _ (s : Scheduler) (states : List ℕ) (c : ℕ) (W : Woken s.entries.states s.tasks.priorities c s.tasks.count states) where
   -- the entries after it are the machine's

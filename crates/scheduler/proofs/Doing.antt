@@ -2,7 +2,7 @@
 use Rattle.std.proofs.Common.{◌≡◌, ℕ, ◌+◌, ◌<◌, Bool, true, false, List, length, get_or, set, ltb, refl, sym, ap, subst, arith, get_or-set_same, get_or-set_other}
 use native.Mathlib.Decide.{ℕ_discrete}
 use Rattle.protocol.specs.Tasks.{priority}
-use Rattle.protocol.specs.State.{Status, none, ready, waiting, asleep, following}
+use Rattle.protocol.specs.State.{Status, none, ready, asleep, following}
 use Rattle.protocol.specs.Running.{system_ceiling, in_force}
 use Rattle.protocol.specs.Checks.{Call, release, resume, suspend, complete}
 use Rattle.protocol.specs.Acting.{become, renewed, slept, admitted_by, admitted, act}
@@ -10,6 +10,7 @@ use Rattle.protocol.proofs.Runner.{runs}
 use Rattle.arrays.specs.declared.entries.Entries.{Entries}
 use Rattle.arrays.specs.View.{status_of, own_number, entries_of}
 use Rattle.arrays.specs.Stores.{Cleared}
+use Rattle.arrays.proofs.Numbers.{own_status}
 use Rattle.scheduler.specs.declared.Scheduler.{Scheduler}
 use Rattle.scheduler.specs.View.{table_of, entry_of, state_of}
 use Rattle.scheduler.specs.Replies.{says, number_for}
@@ -20,24 +21,18 @@ use Rattle.scheduler.proofs.Asking.{Grants}
 
 -- ---- numbers of states
 
--- a status's own number says it
-own_status : (x : Status) → status_of (own_number x) ≡ x
-own_status none = refl
-own_status ready = refl
-own_status waiting = refl
-own_status asleep = refl
-
--- the number of a new status is that status's own
-numbers_set : (l : List ℕ) (i v : ℕ) (x y : Status) → i < length l → v ≡ own_number y → status_of (get_or l i 0) ≡ x → says x y ≡ false
+-- a number stored for another status is that status's own
+pub numbers_set : (l : List ℕ) (i v : ℕ) → i < length l → v ≡ number_for (get_or l i 0) (status_of v)
     → (k : ℕ) → get_or (set l i v) k 0 ≡ number_for (get_or l k 0) (status_of (get_or (set l i v) k 0))
-numbers_set l i v x y lt e was new k = go (ℕ_discrete k i)
+numbers_set l i v lt e k = go (ℕ_discrete k i)
   where
-    here : own_number y ≡ number_for (get_or l i 0) (status_of (own_number y))
-    here = rw (own_status y, was, new)
-
     go : Dec (k ≡ i) → get_or (set l i v) k 0 ≡ number_for (get_or l k 0) (status_of (get_or (set l i v) k 0))
-    go (yes q) = rw (q, get_or-set_same l i v 0 lt, e) here
+    go (yes q) = rw (q, get_or-set_same l i v 0 lt) e
     go (no ne) = rw (get_or-set_other l i k v 0 ne) (number_kept (get_or l k 0))
+
+-- so is that of a status which the job did not have
+number_new : (n v : ℕ) (x y : Status) → v ≡ own_number y → status_of n ≡ x → says x y ≡ false → v ≡ number_for n (status_of v)
+number_new n v x y e was new = rw (e, own_status y, was, new)
 
 -- an admitted job was neither out of work nor asleep
 admitted_new : (b : Bool) → (says none (admitted_by b) ≡ false) × (says asleep (admitted_by b) ≡ false)
@@ -76,7 +71,7 @@ complete_done {s} {p} {n} {i} {v} G e =
     (ap (λ f. record { entry = f; sections = (state_of s).sections })
     (stored (entry_of s) _ i (become none (entry_of s i)) (rw (get_or-set_same l i v 0 lt, e))
     (λ k ne. rw (get_or-set_other l i k v 0 ne))))
-    (numbers_set l i v ready none lt e was refl)
+    (numbers_set l i v lt (number_new (get_or l i 0) v ready none e was refl))
 
 -- it falls asleep
 pub suspend_done : {s : Scheduler} {p n i v : ℕ} → Grants s (suspend p n) i → v ≡ own_number asleep
@@ -97,7 +92,7 @@ suspend_done {s} {p} {n} {i} {v} G e =
     (stored (entry_of s) _ i (slept (entry_of s i))
     (rw (get_or-set_same l i v 0 lt, get_or-set_same m i x 0 (omega (arith, G.sized.sleeps, G.place)), e))
     (λ k ne. rw (get_or-set_other l i k v 0 ne, get_or-set_other m i k x 0 ne))))
-    (numbers_set l i v ready asleep lt e was refl)
+    (numbers_set l i v lt (number_new (get_or l i 0) v ready asleep e was refl))
 
 -- ---- admission
 
@@ -117,7 +112,7 @@ resume_done {s} {p} {n} {i} {v} G e =
     (stored (entry_of s) _ i (become (admission s i) (entry_of s i))
     (rw (get_or-set_same l i v 0 lt, e, own_status (admission s i)))
     (λ k ne. rw (get_or-set_other l i k v 0 ne))))
-    (numbers_set l i v asleep (admission s i) lt e G.passed.2 new.1)
+    (numbers_set l i v lt (number_new (get_or l i 0) v asleep (admission s i) e G.passed.2 new.1))
 
 -- a job begins
 pub release_done : {s : Scheduler} {p i v : ℕ} {after : Entries} → Grants s (release p) i → v ≡ own_number (admission s i)
@@ -155,4 +150,4 @@ release_done {s} {p} {i} {v} {after} G e C rest =
       get_or-set_other E.serials i k w 0 ne,
       C.others k ne,
     ))))
-    (numbers_set E.states i v none (admission s i) lt e G.passed.2 new.0))
+    (numbers_set E.states i v lt (number_new (get_or E.states i 0) v none (admission s i) e G.passed.2 new.0)))

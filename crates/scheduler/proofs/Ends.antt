@@ -18,11 +18,11 @@ use Rattle.scheduler.specs.declared.Scheduler.{Scheduler}
 use Rattle.scheduler.specs.View.{Sized, table_of, entry_of, state_of}
 use Rattle.scheduler.specs.Rulings.{ruling_on}
 use Rattle.scheduler.specs.Beside.{Beside}
-use Rattle.scheduler.specs.Replies.{running_of, written, replied_by, runs, runs_beside, refused_reply, with_started, settled_reply, replied}
+use Rattle.scheduler.specs.Replies.{running_of, written, replied_by, runs, runs_beside, refused_reply, unfit_reply, with_started, settled_reply, replied}
 use Rattle.scheduler.proofs.Written.{beside_self, written_again}
 use Rattle.scheduler.proofs.Settles.{running_settled}
 use Rattle.scheduler.proofs.Storing.{stored}
-use Rattle.scheduler.proofs.Viewing.{Fit}
+use Rattle.scheduler.proofs.Viewing.{Fit, Tested, tested_fit}
 use Rattle.scheduler.proofs.Naming.{Named, checks_named, unfit_is}
 
 -- ---- refused
@@ -59,6 +59,10 @@ unfolding step
 refused_replied {s} c {d} Z e =
     subst (λ q. refused_reply s d ≡ replied_by s (answer in_force (table_of s) (state_of s) c q)) e
     (λ i. record { refusal = sym (denial_back d) i; running = runs_told s c d e i; state = written_again Z (beside_self s) i })
+
+-- so answers the code on an unfit state
+pub unfit_answered : (s : Scheduler) (c : Call) (b : Bool) → Sized s → Tested s b → b ≡ false → unfit_reply s ≡ replied s c
+unfit_answered s c b Z e h = let unfit : fit (table_of s) (state_of s) ≡ false = tested_fit s b e ∙ h in refused_replied c Z (rw unfit)
 
 -- ---- granted
 

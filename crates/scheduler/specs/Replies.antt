@@ -76,6 +76,10 @@ runs_beside _ s = runs s
 abbrev pub refused_reply : Scheduler → Denial → Reply
 refused_reply s d = record { refusal = Some d; running = runs_beside d s; state = s }
 
+-- so an unfit state is answered with nobody running
+abbrev pub unfit_reply : Scheduler → Reply
+unfit_reply s = record { refusal = Some Unfit; running = None; state = s }
+
 -- ---- what an accepted call answers, after its stores
 
 -- the scheduler s with these started marks
