@@ -59,7 +59,8 @@ impl Entries {
     pub fn has_number(&self, tasks: &Tasks, place: Place, job: Number) -> bool
         ensures { result ≡ numbered (tasks_of tasks.now) (entries_of self.now) job.priority job.serial place }
     {
-        self.number_at(tasks, place) == job
+        let latest = self.number_at(tasks, place);
+        (latest.priority == job.priority) & (latest.serial == job.serial)
     }
 
     // The job at a place, if any, is started.
