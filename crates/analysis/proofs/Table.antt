@@ -48,7 +48,7 @@ module _ (E : Equations) (v : List ℕ) (kept : KeptUses) (q : Query) (g : Solva
   placed = rw (table_size E.table.bytes.now E.table.shape E.settings.now E.table.well_formed) g.task
 
   -- the task's deadline
-  own_deadline : own.deadline ≡ deadline S q.task
+  pub own_deadline : own.deadline ≡ deadline S q.task
   own_deadline = deadline_is E.table.bytes.now E.table.shape E.settings.now E.table.well_formed q.task g.task
 
   -- where t starts: not above the right side there

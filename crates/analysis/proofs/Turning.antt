@@ -1,12 +1,12 @@
 -- One turn of a round, as the code makes it.
 use Prim.Native.Nat.{ℕ, ◌+◌, ◌≤◌, ◌<◌}
 use mathlib.Core.Path.{◌≡◌, refl, sym, ap, subst, ◌∙◌}
-use Rattle.std.specs.Prelude.{Option, Some, None}
+use Rattle.std.specs.Prelude.{Option, Some, None, Err}
 use Rattle.std.specs.Option.{is_some}
 use mathlib.Core.Bool.{Bool, false, ◌||◌, or_comm}
 use mathlib.Core.List.{List}
 use native.Mathlib.Omega.{arith}
-use lib.ListN.{get_or, length, set}
+use lib.ListN.{get_or, length, set, length-set}
 use lib.Seq.{get_or-set_same, get_or-set_other}
 use borrow.Author.Count.{below_more}
 use Rattle.table.specs.WellFormed.{task_of}
@@ -19,11 +19,12 @@ use Rattle.equations.specs.declared.keeps.KeptUses.{KeptUses}
 use Rattle.equations.specs.Ready.{QueryIs}
 use Rattle.analysis.specs.Seen.{equations_in}
 use Rattle.analysis.specs.Solving.{answer_of, Solvable}
-use Rattle.rounds.specs.Rounds.{Progress, reply, round, lowers, changed, answer_in}
+use Rattle.rounds.specs.Rounds.{Progress, reply, lowers, changed, answer_in}
 use Rattle.rounds.specs.RoundLoop.{Turned}
 use Rattle.rounds.proofs.RoundLoop.{turned_over, turned_next, turned_answer, turned_end}
 use Rattle.analysis.specs.declared.solver.Reply.{Reply}
-use Rattle.analysis.specs.Rounding.{bounded, progress, Lowers, Marks, Left}
+use Rattle.analysis.specs.declared.Spent.{Spent}
+use Rattle.analysis.specs.Rounding.{bounded, progress, Lowers, Marks, Left, Rounded}
 use Rattle.analysis.proofs.Table.{table_size, deadline_is, lawful_in}
 
 module _ (E : Equations) where
@@ -67,6 +68,7 @@ bound_told None = refl
 -- where the round stands before turn i: the definition's turns, and which of the tasks so far have a bound
 pub record Standing (n : ℕ) (S : System) (origin : Progress) (allowance i : ℕ) (now : Progress) (flag : Bool) (bounds : List Bool) : Type 0 where
   pub turned : Turned S origin allowance i now flag
+  pub long : length bounds ≡ 32
   pub marks : Marks n bounds
   pub marked : (j : ℕ) → j < i → get_or bounds j false ≡ bounded (answer_in S origin j)
 
@@ -77,14 +79,18 @@ module _ (E : Equations) (v : List ℕ) (origin : Progress) (allowance i made : 
     inside = rw (sized E) l
 
     -- where the allowance is spent the round passes it
-    pub spent_round : allowance < (reply (equations_in E) i v made).evaluations → allowance < (round (equations_in E) origin).evaluations
-    spent_round = turned_over (equations_in E) origin allowance i (progress v made) flag g.turned inside
+    pub spent_round : allowance < (reply (equations_in E) i v made).evaluations → (u : List ℕ) (x : Spent)
+        → Rounded E.table.shape.tasks allowance (equations_in E) origin u bounds (Err x)
+    spent_round l u x = record {
+      marks = g.marks;
+      says = turned_over (equations_in E) origin allowance i (progress v made) flag g.turned inside l;
+    }
 
     -- one turn further
     pub next_turn : (r : Reply) → record { answer = answer_of r.bound; evaluations = r.evaluations } ≡ reply (equations_in E) i v made → r.evaluations ≤ allowance
-        → (b : Bool) → b ≡ is_some r.bound → length bounds ≡ 32 → (u : List ℕ) (raised : Bool) → Lowers v i r.bound u raised
+        → (b : Bool) → b ≡ is_some r.bound → (u : List ℕ) (raised : Bool) → Lowers v i r.bound u raised
         → Standing E.table.shape.tasks (equations_in E) origin allowance (i + 1) (progress u r.evaluations) (flag || raised) (set bounds i b)
-    next_turn r whole few b e long u raised low =
+    next_turn r whole few b e u raised low =
         let turned = turned_next (equations_in E) origin allowance i (progress v made) flag g.turned
         (lawful_in E) inside
         (record { answer = answer_of r.bound; evaluations = r.evaluations }) whole few in
@@ -94,10 +100,11 @@ module _ (E : Equations) (v : List ℕ) (origin : Progress) (allowance i made : 
           turned = subst (λ x. Turned (equations_in E) origin allowance (i + 1) (progress u r.evaluations) x)
               (or_comm (lowers v i (answer_of r.bound)) flag ∙ ap (λ (x : Bool). flag || x) (sym low.raised))
               (subst (λ x. Turned (equations_in E) origin allowance (i + 1) (progress x r.evaluations) (lowers v i (answer_of r.bound) || flag)) (sym low.vector) turned);
+          long = length-set bounds i b ∙ g.long;
           marks = λ j p. get_or-set_other bounds i j b false (λ z. omega arith) ∙ g.marks j p;
           marked = below_more (λ j. get_or (set bounds i b) j false ≡ bounded (answer_in (equations_in E) origin j)) i
               (λ j p. get_or-set_other bounds i j b false (λ z. omega arith) ∙ g.marked j p)
-              (get_or-set_same bounds i b false (omega (arith, E.table.well_formed.tasks_most)) ∙ e ∙ bound_told r.bound ∙ ap bounded (sym told));
+              (get_or-set_same bounds i b false (omega (arith, g.long, E.table.well_formed.tasks_most)) ∙ e ∙ bound_told r.bound ∙ ap bounded (sym told));
         }
 
   -- after the last turn the round is done

@@ -9,7 +9,7 @@ mod solver;
 mod starts;
 mod turns;
 
-use equations::Equations;
+use equations::{Equations, Listed};
 use table::{Refusal, Table, Why};
 use turns::Rounds;
 
@@ -83,9 +83,11 @@ fn analyse_table(table: &Table, allowance: u64) -> Analysis
     let settings = starts::own_settings(table);
     let ceilings = equations::ceilings(table);
     let rounds = Rounds {
-        equations: Equations {
-            table: *table,
-            settings: &settings,
+        listed: Listed {
+            equations: Equations {
+                table: *table,
+                settings: &settings,
+            },
             ceilings: &ceilings,
         },
         allowance,

@@ -24,11 +24,11 @@ impl Rounds<'_> {
         query: Query,
         made: u64,
     ) -> Result<Reply, Spent>
-        requires solvable { Solvable self.now.equations vector.now kept.now query }
+        requires solvable { Solvable self.now.listed.equations vector.now kept.now query }
         requires made_le_allowance { made ≤ self.now.allowance }
-        ensures { Solved self.now.allowance (reply (equations_in self.now.equations) query.task vector.now made) result }
+        ensures { Solved self.now.allowance (reply (equations_in self.now.listed.equations) query.task vector.now made) result }
     {
-        let task = self.equations.table.task(query.task);
+        let task = self.listed.equations.table.task(query.task);
         let deadline = u64::from(task.deadline);
         let mut t = u64::from(task.run) + u64::from(task.sleep);
         let mut evaluations = made;
@@ -37,7 +37,7 @@ impl Rounds<'_> {
             if self.allowance <= evaluations {
                 return Err(Spent);
             }
-            let side = self.equations.right_side(vector, kept, query, t);
+            let side = self.listed.equations.right_side(vector, kept, query, t);
             evaluations += 1;
             if side == t {
                 return Ok(Reply {

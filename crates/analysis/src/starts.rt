@@ -34,11 +34,11 @@ pub fn deadlines(table: &Table, vector: &mut [u64])
 impl Rounds<'_> {
     // The rounds, from the deadlines on. Vector and marks are lent apart: of a struct of two `&mut` a caller is not told what they hold in the end.
     pub fn settle(&self, vector: &mut [u64], bounds: &mut [bool; 32]) -> Result<u64, Spent>
-        requires vector_len { length vector.old ≡ self.now.equations.table.shape.tasks }
-        requires marks { Marks self.now.equations.table.shape.tasks bounds.old }
-        ensures { Settled self.now.equations.table.shape.tasks self.now.allowance (equations_in self.now.equations) vector.new bounds.new result }
+        requires vector_len { length vector.old ≡ self.now.listed.equations.table.shape.tasks }
+        requires marks { Marks self.now.listed.equations.table.shape.tasks bounds.old }
+        ensures { Settled self.now.listed.equations.table.shape.tasks self.now.allowance (equations_in self.now.listed.equations) vector.new bounds.new result }
     {
-        deadlines(&self.equations.table, vector);
+        deadlines(&self.listed.equations.table, vector);
         self.all_rounds(vector, bounds)
     }
 }

@@ -7,12 +7,12 @@ ghost use Rattle.analysis.specs.Seen.{equations_in};
 ghost use Rattle.analysis.specs.Rounding.{Lowers, Marks, Rounded, Settled, progress};
 
 use crate::Spent;
-use equations::{Equations, KeptUses};
+use equations::{KeptUses, Listed};
 
-// What the rounds are about: the equations, and how many evaluations are allowed.
+// What the rounds are about: the equations with the table's ceilings, and how many evaluations are allowed.
 #[derive(Clone, Copy)]
 pub struct Rounds<'a> {
-    pub equations: Equations<'a>,
+    pub listed: Listed<'a>,
     pub allowance: u64,
 }
 
@@ -52,17 +52,17 @@ impl Rounds<'_> {
         bounds: &mut [bool; 32],
         made: u64,
     ) -> Result<Round, Spent>
-        requires on_way { OnWay (equations_in self.now.equations) vector.old }
+        requires on_way { OnWay (equations_in self.now.listed.equations) vector.old }
         requires made_le_allowance { made ≤ self.now.allowance }
-        requires marks { Marks self.now.equations.table.shape.tasks bounds.old }
-        ensures { Rounded self.now.equations.table.shape.tasks self.now.allowance (equations_in self.now.equations) (progress vector.old made)
+        requires marks { Marks self.now.listed.equations.table.shape.tasks bounds.old }
+        ensures { Rounded self.now.listed.equations.table.shape.tasks self.now.allowance (equations_in self.now.listed.equations) (progress vector.old made)
             vector.new bounds.new result }
     {
         let mut evaluations = made;
         let mut changed = false;
         let mut kept = KeptUses::new();
-        for i in 0..self.equations.table.shape.tasks {
-            let query = self.equations.asked(&mut kept, i);
+        for i in 0..self.listed.equations.table.shape.tasks {
+            let query = self.listed.asked(&mut kept, i);
             let reply = self.solve(vector, &kept, query, evaluations)?;
             evaluations = reply.evaluations;
             bounds[i] = reply.bound.is_some();
@@ -77,9 +77,9 @@ impl Rounds<'_> {
 
     // Rounds from the deadlines until one changes nothing. Answers the evaluations.
     pub fn all_rounds(&self, vector: &mut [u64], bounds: &mut [bool; 32]) -> Result<u64, Spent>
-        requires at_deadlines { progress vector.old 0 ≡ begin (equations_in self.now.equations) }
-        requires marks { Marks self.now.equations.table.shape.tasks bounds.old }
-        ensures { Settled self.now.equations.table.shape.tasks self.now.allowance (equations_in self.now.equations) vector.new bounds.new result }
+        requires at_deadlines { progress vector.old 0 ≡ begin (equations_in self.now.listed.equations) }
+        requires marks { Marks self.now.listed.equations.table.shape.tasks bounds.old }
+        ensures { Settled self.now.listed.equations.table.shape.tasks self.now.allowance (equations_in self.now.listed.equations) vector.new bounds.new result }
     {
         let mut made = 0;
         // no index is counted: how many rounds change a value is not known beforehand

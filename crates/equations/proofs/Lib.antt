@@ -3,6 +3,7 @@ pub mod Layers
 pub mod Lawful
 pub mod Accepted
 pub mod Places
+mod Bounds
 mod Scanned
 mod Middle
 mod Keeping

@@ -135,14 +135,14 @@ module _ (s : List ℕ) (h : Shape) (w : WellFormed s h) (bytes : (j : ℕ) → 
   )
 
   -- they are small, and so is B0
-  sums_most : (p : Sums) → p ≡ sums_of s v kept n q.sleeps t → (p.less ≤ 64000000) × (p.more ≤ 65000000)
+  pub sums_most : (p : Sums) → p ≡ sums_of s v kept n q.sleeps t → (p.less ≤ 64000000) × (p.more ≤ 65000000)
   sums_most p e =
       let few = sleeps_most in (
         omega (arith, ap (λ (a : Sums). a.less) e, bag_most 1000000 q.sleeps n (lengths_in kept) (times_in s v kept t) kept_short),
         omega (arith, ap (λ (a : Sums). a.more) e, bag_most 1000000 (q.sleeps + 1) n (lengths_in kept) (times_in s v kept t) kept_short),
       )
 
-  extra_most : q.extra ≤ 1000000
+  pub extra_most : q.extra ≤ 1000000
   unfolding extra
   extra_most =
       let W = view_of s h settings in

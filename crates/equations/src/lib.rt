@@ -12,16 +12,23 @@ mod scans;
 mod sides;
 
 pub use keeps::KeptUses;
+pub use packed::Word;
 pub use scans::ceilings;
 use table::Table;
 
-// The equations of an accepted table under some settings, and the ceilings of its resources, by their numbers.
+// The equations of an accepted table under some settings.
 #[derive(Clone, Copy)]
 pub struct Equations<'a> {
     pub table: Table<'a>,
     pub settings: &'a [u8; 32],
+}
+
+// Equations, and the ceilings of their table's resources, by their numbers: what is asked once of a task looks at these, its right sides don't.
+#[derive(Clone, Copy)]
+pub struct Listed<'a> {
+    pub equations: Equations<'a>,
     pub ceilings: &'a [u8; 32],
-    pub ghost listed: { CeilingsAre table.bytes.now table.shape ceilings.now },
+    pub ghost listed: { CeilingsAre equations.table.bytes.now equations.table.shape ceilings.now },
 }
 
 // A task, by its place, and a length t.

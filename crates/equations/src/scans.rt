@@ -5,7 +5,7 @@ ghost use Rattle.equations.specs.Ceilings.{CeilingsAre};
 ghost use Rattle.equations.specs.Ready.{UsesFrom, reaching_length, Longest, QueryIs};
 
 use crate::keeps::Span;
-use crate::{Equations, KeptUses, Query};
+use crate::{KeptUses, Listed, Query};
 use table::Table;
 
 // The ceiling of each resource, by its number.
@@ -47,13 +47,13 @@ fn uses_from(table: &Table, least: u64) -> usize
     low
 }
 
-impl Equations<'_> {
+impl Listed<'_> {
     // The length of use k, where its resource's ceiling is not below the priority, else 0.
     fn reaching_length(&self, k: usize, priority: u8) -> u64
-        requires { k < self.now.table.shape.uses }
-        ensures { result ≡ reaching_length self.now.table.bytes.now self.now.ceilings.now self.now.table.shape.uses_at priority k }
+        requires { k < self.now.equations.table.shape.uses }
+        ensures { result ≡ reaching_length self.now.equations.table.bytes.now self.now.ceilings.now self.now.equations.table.shape.uses_at priority k }
     {
-        let usage = self.table.usage(k);
+        let usage = self.equations.table.usage(k);
         if priority <= self.ceilings[usize::from(usage.resource)] {
             return u64::from(usage.length);
         }
@@ -62,11 +62,11 @@ impl Equations<'_> {
 
     // B0 of the task with this priority: the largest reaching length from a use on.
     fn extra(&self, priority: u8, first: usize) -> u64
-        requires { first ≤ self.now.table.shape.uses }
-        ensures { Longest self.now.table.bytes.now self.now.ceilings.now self.now.table.shape.uses_at priority first self.now.table.shape.uses result }
+        requires { first ≤ self.now.equations.table.shape.uses }
+        ensures { Longest self.now.equations.table.bytes.now self.now.ceilings.now self.now.equations.table.shape.uses_at priority first self.now.equations.table.shape.uses result }
     {
         let mut best: u64 = 0;
-        for k in first..self.table.shape.uses {
+        for k in first..self.equations.table.shape.uses {
             best = best.max(self.reaching_length(k, priority));
         }
         best
@@ -74,13 +74,13 @@ impl Equations<'_> {
 
     // What is worked out once of the task at a place. The uses that can block it are kept, as far as its right sides look at them.
     pub fn asked(&self, kept: &mut KeptUses, place: usize) -> Query
-        requires { place < self.now.table.shape.tasks }
-        ensures { QueryIs self.now.table.bytes.now self.now.table.shape self.now.settings.now place kept.new.words kept.new.count result }
+        requires { place < self.now.equations.table.shape.tasks }
+        ensures { QueryIs self.now.equations.table.bytes.now self.now.equations.table.shape self.now.equations.settings.now place kept.new.words kept.new.count result }
     {
-        let table = &self.table;
+        let table = &self.equations.table;
         let task = table.task(place);
         let first = uses_from(table, u64::from(task.priority));
-        let end = uses_from(table, u64::from(self.settings[place]) + 1);
+        let end = uses_from(table, u64::from(self.equations.settings[place]) + 1);
         let span = Span {
             priority: task.priority,
             first,
