@@ -1,20 +1,13 @@
 // What a report will say, worked out before any lent row is touched.
-ghost use Rattle.std.specs.Prelude.{◌≡◌, ◌++◌, ◌≤◌, ◌-◌, replicate};
+ghost use Rattle.std.specs.Prelude.{◌≡◌, ◌++◌, ◌≤◌, drop};
 ghost use Rattle.searches.specs.Indexed.{every};
 ghost use Rattle.table.specs.WellFormed.{task_of};
 ghost use Rattle.report.specs.Reporting.{answer_number, answer_value, row_of, task_row, refused_by, summary};
-ghost use Rattle.report.specs.Finding.{no_row, Finds};
+ghost use Rattle.report.specs.Finding.{Finds};
 
 use crate::{Reported, Row};
 use analysis::{Analysis, TaskAnswer};
 use table::{Refusal, Why};
-
-// What a report answers, and the rows of the tasks that it tells of: as many as it says, none of a refusal.
-#[derive(Clone, Copy)]
-pub struct Found {
-    pub reported: Reported,
-    pub rows: [Row; 32],
-}
 
 // The number of an answer: 0 for none, 1 for a bound, 2 for a conditional value. C hosts read it in their rows; a `From` is for a type of this crate.
 fn number_of(answer: TaskAnswer) -> u8
@@ -51,30 +44,25 @@ fn row_of(bytes: &[u8], place: usize, answer: TaskAnswer) -> Row
     }
 }
 
-// The rows of the tasks that an analysis tells of, in table order, and then rows of 0.
-fn task_rows(bytes: &[u8], analysis: &Analysis) -> [Row; 32]
+// Puts the rows of the tasks that an analysis tells of in front, in table order; later rows stay.
+fn put_rows(bytes: &[u8], analysis: &Analysis, rows: &mut [Row; 32])
     requires { analysis.now.tasks ≤ 32 }
-    ensures { result ≡ every (task_row bytes.now analysis.now) analysis.now.tasks 0 ++ replicate (32 - analysis.now.tasks) no_row }
+    ensures { rows.new ≡ every (task_row bytes.now analysis.now) analysis.now.tasks 0 ++ drop analysis.now.tasks rows.old }
 {
-    let mut rows = [Row::default(); 32];
     for i in 0..analysis.tasks {
         rows[i] = row_of(bytes, i, analysis.answer(i));
     }
-    rows
 }
 
 // A refusal: no tasks, so no rows.
-fn refused(refusal: Refusal) -> Found
-    ensures { result.reported ≡ refused_by refusal }
+fn refused(refusal: Refusal) -> Reported
+    ensures { result ≡ refused_by refusal }
 {
-    Found {
-        reported: Reported {
-            refusal: Some(refusal),
-            tasks: 0,
-            verdict: false,
-            evaluations: 0,
-        },
-        rows: [Row::default(); 32],
+    Reported {
+        refusal: Some(refusal),
+        tasks: 0,
+        verdict: false,
+        evaluations: 0,
     }
 }
 
@@ -92,19 +80,18 @@ impl From<Analysis> for Reported {
     }
 }
 
-// What is found of any bytes, where so many rows are lent: a refusal where the table is refused, or has more tasks; else its analysis.
-pub fn find(bytes: &[u8], allowance: u64, room: usize) -> Found
-    ensures { Finds bytes.now allowance room result }
+// What is found of any bytes, where so many rows are lent: a refusal where the table is refused, or has more tasks; else its analysis. The rows that
+// are found are put into an array of the caller's: answered beside the reply they would stand on the stack twice.
+pub fn find(bytes: &[u8], allowance: u64, room: usize, rows: &mut [Row; 32]) -> Reported
+    ensures { Finds bytes.now allowance room result rows.new }
 {
     match table::read(bytes) {
         Err(refusal) => refused(refusal),
         Ok(shape) if room < shape.tasks => refused(Why::Rows.at(0)),
         Ok(_) => {
             let analysis = analysis::analyse(bytes, allowance);
-            Found {
-                reported: Reported::from(analysis),
-                rows: task_rows(bytes, &analysis),
-            }
+            put_rows(bytes, &analysis, rows);
+            Reported::from(analysis)
         }
     }
 }

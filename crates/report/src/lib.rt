@@ -34,8 +34,9 @@ pub fn report(bytes: &[u8], allowance: u64, rows: &mut [Row]) -> Reported
     ensures { (result ≡ reported bytes.now allowance (length rows.old))
         × (rows.new ≡ rows_after bytes.now allowance rows.old) }
 {
-    let found = finding::find(bytes, allowance, rows.len());
-    let tasks = found.reported.tasks;
-    rows[..tasks].copy_from_slice(&found.rows[..tasks]);
-    found.reported
+    let mut found = [Row::default(); 32];
+    let reported = finding::find(bytes, allowance, rows.len(), &mut found);
+    let tasks = reported.tasks;
+    rows[..tasks].copy_from_slice(&found[..tasks]);
+    reported
 }

@@ -8,19 +8,19 @@ use Rattle.report.proofs.Laws.{unread_finds, short_finds, analysed_finds}
 use Rattle.report.proofs.finding.find.Goals as goal
 
 pub returns-in-Err : goal.returns-in-Err
-returns-in-Err c = unread_finds c.args.bytes.now c.args.allowance c.args.room _ _ (sym c.in-Err.ensures) c.refused.ensures
+returns-in-Err c = unread_finds c.args.bytes.now c.args.allowance c.args.room _ _ _ (sym c.in-Err.ensures) c.refused.ensures
 
 pub returns-in-Ok : goal.returns-in-Ok
 returns-in-Ok c =
-    short_finds c.args.bytes.now c.in-Ok.shape (sym c.in-Ok.ensures) c.args.allowance c.args.room _ c.if-room-shape.true
+    short_finds c.args.bytes.now c.in-Ok.shape (sym c.in-Ok.ensures) c.args.allowance c.args.room _ _ c.if-room-shape.true
     (c.refused-in-Ok.ensures ∙ ap refused_by c.at.ensures)
 
-pub task_rows-requires : goal.task_rows-requires
-task_rows-requires c =
+pub put_rows-requires : goal.put_rows-requires
+put_rows-requires c =
     let same = ap (λ (a : Analysis). a.tasks) c.analyse-analysis.ensures in
     omega (arith, same, tasks_most c.args.bytes.now c.args.allowance)
 
 pub returns-in-Ok-2 : goal.returns-in-Ok-2
 returns-in-Ok-2 c =
-    analysed_finds c.args.bytes.now c.in-Ok.shape (sym c.in-Ok.ensures) c.args.allowance c.args.room _ c.if-room-shape.false
-    c.analyse-analysis.result c.analyse-analysis.ensures c.from.ensures c.task_rows.ensures
+    analysed_finds c.args.bytes.now c.in-Ok.shape (sym c.in-Ok.ensures) c.args.allowance c.args.room _ _ c.if-room-shape.false
+    c.analyse-analysis.result c.analyse-analysis.ensures c.from.ensures _ c.put_rows.ensures
