@@ -94,16 +94,16 @@ fn analyse_table(table: &Table, allowance: u64) -> Analysis
     };
     let mut values = [0u64; 32];
     let mut bounds = [false; 32];
-    match rounds.settle(&mut values[..tasks], &mut bounds) {
-        Ok(evaluations) => Analysis {
-            refusal: None,
-            tasks,
-            verdict: turns::all_bounded(&bounds[..tasks]),
-            evaluations,
-            values,
-            bounds,
-        },
-        Err(Spent) => refused(Why::Allowance.at(0)),
+    let Ok(evaluations) = rounds.settle(&mut values[..tasks], &mut bounds) else {
+        return refused(Why::Allowance.at(0));
+    };
+    Analysis {
+        refusal: None,
+        tasks,
+        verdict: turns::all_bounded(&bounds[..tasks]),
+        evaluations,
+        values,
+        bounds,
     }
 }
 

@@ -10,16 +10,16 @@ use Rattle.analysis.proofs.analyse_table.Goals as goal
 pub settle-requires-clause-marks : goal.settle-requires-clause-marks
 settle-requires-clause-marks c = marks_start c.args.table.now.shape.tasks
 
-pub returns-in-Ok : goal.returns-in-Ok
-returns-in-Ok c =
+pub returns : goal.returns
+returns c =
     let T = c.args.table.now in
     let long : length c.settle.new.bounds ≡ 32 = omega arith in
     done_is T.bytes.now T.shape T.well_formed c.args.allowance c.own_settings-settings.result c.own_settings-settings.ensures
     c.settle.new.vector c.settle.new.bounds c.in-Ok.evaluations long c.in-Ok.ensures.marks c.in-Ok.ensures.says _ c.all_bounded.result refl
     (c.all_bounded.ensures ∙ all_marked c.settle.new.bounds T.shape.tasks (omega (arith, long, T.well_formed.tasks_most)))
 
-pub returns-in-Err : goal.returns-in-Err
-returns-in-Err c =
+pub returns-in_default : goal.returns-in_default
+returns-in_default c =
     let T = c.args.table.now in
     spent_is T.bytes.now T.shape T.well_formed c.args.allowance c.own_settings-settings.result c.own_settings-settings.ensures c.refused.result
-    (c.refused.ensures ∙ ap refused_by c.at.ensures) c.in-Err.ensures.says
+    (c.refused.ensures ∙ ap refused_by c.at.ensures) c.in_default.ensures.says
