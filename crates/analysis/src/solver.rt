@@ -15,7 +15,7 @@ pub struct Reply {
     pub evaluations: u64,
 }
 
-impl Rounds<'_> {
+impl Rounds<'_, '_, '_> {
     // The task of the query, with the uses that are kept of it, under a vector, with so many evaluations made.
     pub fn solve(
         &self,

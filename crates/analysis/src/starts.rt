@@ -31,7 +31,7 @@ pub fn deadlines(table: &Table, vector: &mut [u64])
     }
 }
 
-impl Rounds<'_> {
+impl Rounds<'_, '_, '_> {
     // The rounds, from the deadlines on. Vector and marks are lent apart: of a struct of two `&mut` a caller is not told what they hold in the end.
     pub fn settle(&self, vector: &mut [u64], bounds: &mut [bool; 32]) -> Result<u64, Spent>
         requires vector_len { length vector.old ≡ self.now.listed.equations.table.shape.tasks }

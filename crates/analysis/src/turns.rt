@@ -11,8 +11,8 @@ use equations::{KeptUses, Listed};
 
 // What the rounds are about: the equations with the table's ceilings, and how many evaluations are allowed.
 #[derive(Clone, Copy)]
-pub struct Rounds<'a> {
-    pub listed: Listed<'a>,
+pub struct Rounds<'a, 'b, 'c> {
+    pub listed: Listed<'a, 'b, 'c>,
     pub allowance: u64,
 }
 
@@ -44,7 +44,7 @@ fn lower(vector: &mut [u64], i: usize, bound: Option<u64>) -> bool
     }
 }
 
-impl Rounds<'_> {
+impl Rounds<'_, '_, '_> {
     // A round: a turn for each task, by falling priority. It also marks which tasks have a bound.
     pub fn one_round(
         &self,

@@ -24,7 +24,7 @@ fn delayed(t: u64, value: u64, run: u64, period: u32) -> u64
     ceil_div(t + value - run, period) * run
 }
 
-impl Equations<'_> {
+impl Equations<'_, '_> {
     // What the higher task j adds.
     fn added(&self, vector: &[u64], at: At, j: usize) -> u64
         requires ready { Ready self.now.table.bytes.now self.now.table.shape vector.now at }

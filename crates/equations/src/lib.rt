@@ -18,16 +18,16 @@ use table::Table;
 
 // The equations of an accepted table under some settings.
 #[derive(Clone, Copy)]
-pub struct Equations<'a> {
+pub struct Equations<'a, 'b> {
     pub table: Table<'a>,
-    pub settings: &'a [u8; 32],
+    pub settings: &'b [u8; 32],
 }
 
 // Equations, and the ceilings of their table's resources, by their numbers: what is asked once of a task looks at these, its right sides don't.
 #[derive(Clone, Copy)]
-pub struct Listed<'a> {
-    pub equations: Equations<'a>,
-    pub ceilings: &'a [u8; 32],
+pub struct Listed<'a, 'b, 'c> {
+    pub equations: Equations<'a, 'b>,
+    pub ceilings: &'c [u8; 32],
     pub ghost listed: { CeilingsAre equations.table.bytes.now equations.table.shape ceilings.now },
 }
 

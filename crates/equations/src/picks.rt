@@ -53,7 +53,7 @@ impl Tally {
     }
 }
 
-impl Equations<'_> {
+impl Equations<'_, '_> {
     // How often the bag has a kept use: its N times the jobs of its task.
     fn times_of(&self, vector: &[u64], t: u64, word: Word) -> u64
         requires { Timed self.now.table.bytes.now vector.now self.now.table.shape.tasks t word }

@@ -47,7 +47,7 @@ fn uses_from(table: &Table, least: u64) -> usize
     low
 }
 
-impl Listed<'_> {
+impl Listed<'_, '_, '_> {
     // The length of use k, where its resource's ceiling is not below the priority, else 0.
     fn reaching_length(&self, k: usize, priority: u8) -> u64
         requires { k < self.now.equations.table.shape.uses }

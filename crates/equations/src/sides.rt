@@ -6,7 +6,7 @@ ghost use Rattle.equations.specs.Ready.{Asking};
 
 use crate::{At, Equations, KeptUses, Query};
 
-impl Equations<'_> {
+impl Equations<'_, '_> {
     // The right side of a task's equation at t, under a vector, with the uses that are kept of it.
     pub fn right_side(&self, vector: &[u64], kept: &KeptUses, query: Query, t: u64) -> u64
         requires { Asking self.now.table.bytes.now self.now.table.shape self.now.settings.now vector.now kept.now.words kept.now.count query t }
