@@ -52,7 +52,7 @@ module _ (E : Equations) (v : List ℕ) (kept : KeptUses) (q : Query) (g : Solva
   own_deadline = deadline_is E.table.bytes.now E.table.shape E.settings.now E.table.well_formed q.task g.task
 
   -- where t starts: not above the right side there
-  start_above : S.start q.task ≤ S.side q.task v (S.start q.task)
+  pub start_above : S.start q.task ≤ S.side q.task v (S.start q.task)
   start_above = (lawful_in E).above q.task placed v (S.start q.task)
 
   pub side_rises : (a b : ℕ) → a ≤ b → S.side q.task v a ≤ S.side q.task v b

@@ -10,6 +10,7 @@ mod starts;
 mod turns;
 
 use equations::{Equations, Listed};
+pub use solver::Reply;
 use table::{Refusal, Table, Why};
 use turns::Rounds;
 
