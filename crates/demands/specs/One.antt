@@ -63,7 +63,12 @@ pub record OneReply : Type 0 where
   pub why_numbers : (y : Why) → One (table-replies.why_number y)
   pub whys_at : (y : Why) (place : ℕ) → One {A = Refusal} (record { why = y; place = place })
   pub refusals_print : (r : Refusal) → One (table-replies.refusal_text r)
-  -- a refusal by its number, whatever that is: what it is made of, what it prints, and number, place and count of an answer with it
+  -- Refuses::number and place; a refusal by its number, whatever that is: what it is made of, what it prints, and number, place and count of an
+  -- answer with it
+  pub refused_numbers : (r : Refusal) → One (table-replies.why_number r.why)
+  pub refused_places : (r : Refusal) → One r.place
+  pub numbered_numbers : (r : Numbered) → One r.number
+  pub numbered_places : (r : Numbered) → One r.place
   pub numbered : (r : Refusal) → One {A = Numbered} (record { number = table-replies.why_number r.why; place = r.place })
   pub numbered_print : (r : Numbered) → One (table-replies.told_text r.number r.place)
   pub told_numbers : (w : Result ℕ Numbered) → One (table-replies.told_of (λ r. r.number) w)
@@ -114,6 +119,10 @@ one_reply = record {
   why_numbers = λ y. one (table-replies.why_number y);
   whys_at = λ y place. one {A = Refusal} (record { why = y; place = place });
   refusals_print = λ r. one (table-replies.refusal_text r);
+  refused_numbers = λ r. one (table-replies.why_number r.why);
+  refused_places = λ r. one r.place;
+  numbered_numbers = λ r. one r.number;
+  numbered_places = λ r. one r.place;
   numbered = λ r. one {A = Numbered} (record { number = table-replies.why_number r.why; place = r.place });
   numbered_print = λ r. one (table-replies.told_text r.number r.place);
   told_numbers = λ w. one (table-replies.told_of (λ r. r.number) w);

@@ -120,6 +120,20 @@ impl fmt::Display for Refusal {
 
 impl Error for Refusal {}
 
+impl Refuses for Refusal {
+    ghost numbered = { λ r. why_number r.why };
+
+    ghost placed = { λ r. r.place };
+
+    fn number(self) -> u8 {
+        self.why.number()
+    }
+
+    fn place(self) -> usize {
+        self.place
+    }
+}
+
 // Reads a table: all of the bytes, whatever they are.
 pub fn read(bytes: &[u8]) -> Result<Shape, Refusal>
     ensures { result ≡ read_table bytes.now }

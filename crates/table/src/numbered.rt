@@ -20,20 +20,6 @@ pub trait Refuses: Copy {
         ensures { result ≡ placed self };
 }
 
-impl Refuses for Refusal {
-    ghost numbered = { λ r. why_number r.why };
-
-    ghost placed = { λ r. r.place };
-
-    fn number(self) -> u8 {
-        self.why.number()
-    }
-
-    fn place(self) -> usize {
-        self.place
-    }
-}
-
 // A refusal by its number, which may be any: as a host keeps it, or had it from elsewhere.
 #[derive(Clone, Copy, PartialEq, Eq, Debug)]
 pub struct Numbered {

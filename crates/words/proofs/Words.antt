@@ -18,7 +18,7 @@ use lib.Seq.{length-take-le}
 use Rattle.table.specs.declared.Refusal.{Refusal}
 use Rattle.table.specs.Replies.{why_number}
 use Rattle.words.specs.Text.{text, digits_in, decimal, labelled, joined}
-use Rattle.words.specs.Refusing.{refusal_line}
+use Rattle.words.specs.Refusing.{refused_line, refusal_line}
 use Rattle.words.specs.Classes.{class_number, class_of}
 use Rattle.words.specs.Finding.{lead, in_class, run_end, digit, same, is_number, with_digit, value_on, value_of, printable, printables, found_text}
 
@@ -242,6 +242,9 @@ labelled_few label n = grind (arith, common_steps, decimal_few n)
 pub found_few : (w : List ℕ) → length (found_text w) ≤ 27
 found_few w = grind (arith, common_steps, printables_length w, printables_length (take 24 w))
 
--- the line of a refusal
+-- the line of a refusal, of any number
+pub refused_few : (number place : ℕ) → length (refused_line number place) ≤ 64
+refused_few number place = grind (arith, common_steps, decimal_few number, decimal_few place)
+
 pub refusal_few : (f : Refusal) → length (refusal_line f) ≤ 64
-refusal_few f = grind (arith, common_steps, decimal_few (why_number f.why), decimal_few f.place)
+refusal_few f = refused_few (why_number f.why) f.place
