@@ -4,22 +4,36 @@ use harness::input::{Stop, byte, record};
 use scheduler::{Call, Number, Scheduler};
 use std::io::{Read, Write};
 
-// Reads the number of a job.
-fn job(input: &mut impl Read) -> Result<Number, Stop> {
-    let priority = byte(input)?;
-    let serial = u16::from_le_bytes(record(input)?);
-    Ok(Number { priority, serial })
+// The number of a job by its three bytes.
+fn job(bytes: [u8; 3]) -> Number {
+    let [priority, low, high] = bytes;
+    Number {
+        priority,
+        serial: u16::from_le_bytes([low, high]),
+    }
+}
+
+// Reads the number of a job and a resource, at once.
+fn job_and_resource(input: &mut impl Read) -> Result<(Number, u8), Stop> {
+    let [priority, low, high, resource]: [u8; 4] = record(input)?;
+    Ok((job([priority, low, high]), resource))
 }
 
 // Reads the rest of the call of a letter. Where it is no call's letter, the cases are over.
 fn call(input: &mut impl Read, letter: u8) -> Result<Call, Stop> {
     match letter {
         b'r' => Ok(Call::Release(byte(input)?)),
-        b'w' => Ok(Call::Resume(job(input)?)),
-        b'l' => Ok(Call::Lock(job(input)?, byte(input)?)),
-        b'u' => Ok(Call::Unlock(job(input)?, byte(input)?)),
-        b's' => Ok(Call::Suspend(job(input)?)),
-        b'c' => Ok(Call::Complete(job(input)?)),
+        b'w' => Ok(Call::Resume(job(record(input)?))),
+        b'l' => {
+            let (job, resource) = job_and_resource(input)?;
+            Ok(Call::Lock(job, resource))
+        }
+        b'u' => {
+            let (job, resource) = job_and_resource(input)?;
+            Ok(Call::Unlock(job, resource))
+        }
+        b's' => Ok(Call::Suspend(job(record(input)?))),
+        b'c' => Ok(Call::Complete(job(record(input)?))),
         _ => Err(Stop::Over),
     }
 }
