@@ -2,7 +2,7 @@
 use Rattle.std.proofs.Common.{ℕ, ◌<◌, List, [], ◌∷◌, arith}
 use Rattle.harness.specs.Sums.{after_number, after_numbers}
 
--- all numbers of a list leave one that is below it there
+-- one that is below it is below it still after the numbers of a list
 pub numbers_reduced : (h : ℕ) (xs : List ℕ) → h < 1000003 → after_numbers h xs < 1000003
 numbers_reduced h [] l = l
 numbers_reduced h (x ∷ xs) l = numbers_reduced (after_number h x) xs (omega arith)

@@ -4,7 +4,7 @@ ghost use Rattle.harness.specs.Sums.{after_number, after_numbers};
 
 use std::fmt;
 
-// A checksum whose value may be any number, as one that was kept elsewhere: a number x makes it (it * 257 + x) % 1000003.
+// A checksum that may go on from any value, such as one that a host read from a file: each number x makes it (it * 257 + x) % 1000003.
 #[derive(Clone, Copy)]
 pub struct AnyChecksum {
     pub value: u64,

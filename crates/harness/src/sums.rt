@@ -53,20 +53,25 @@ impl fmt::Display for Checksum {
 #[cfg(test)]
 mod tests {
     use super::*;
+    use std::test::Fail;
 
     #[test]
-    fn after_numbers_and_bytes(rt: HostRuntime) {
+    fn after_numbers_and_bytes(rt: HostRuntime) -> Result<(), Fail> {
         let sum = Checksum::start().with(7u8).with(300u16);
         assert_eq!(rt; sum.value, 2099);
         assert_eq!(rt; sum.with_bytes(b"bean").value, 102397);
+        assert_eq!(rt; sum.to_string(rt.alloc())?.as_str(), "2099");
+        Ok(())
     }
 
     #[test]
-    fn after_any_number(rt: HostRuntime) {
+    fn after_any_number(rt: HostRuntime) -> Result<(), Fail> {
         let sum = AnyChecksum { value: 5_000_000 };
         assert_eq!(rt; sum.with(9u32).value, 996157);
         assert_eq!(rt; sum.with_bytes(b"pea").value, 805391);
         assert_eq!(rt; sum.with_bytes(b"").value, 5_000_000);
         assert_eq!(rt; AnyChecksum::start().value, 0);
+        assert_eq!(rt; sum.to_string(rt.alloc())?.as_str(), "5000000");
+        Ok(())
     }
 }
